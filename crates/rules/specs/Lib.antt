@@ -1,0 +1,7 @@
+-- Document 01, a file a heading, in its order.
+pub mod Bytes
+pub mod Identity
+pub mod Lock
+pub mod Record
+pub mod Table
+pub mod Worked

@@ -1,0 +1,54 @@
+// The types and the sizes that code and definitions share. Nothing here knows how the code works.
+pub mod flags;
+pub mod place;
+pub mod state;
+
+// 01, "The table": records of one fixed size, 1 to 64 of them.
+pub const RECORD_BYTES: usize = 256;
+
+pub const MOST_RECORDS: usize = 64;
+
+// A range's first page and its pages add up to 2^52 at most.
+pub const PAGES_END: u64 = 4503599627370496;
+
+// 01: a requester number, a stream number and a session number may never stand for one another.
+pub struct Requester(pub u16);
+
+pub struct Stream(pub u8);
+
+pub struct Session(pub u8);
+
+// FUNCTION_ID taken apart: bits 15:0, 23:16 and 24.
+pub struct Identity {
+    pub requester: Requester,
+    pub segment: u8,
+    pub valid: bool,
+}
+
+// A range of pages: 16 bytes of a record or of a report.
+pub struct Range {
+    pub first: u64,
+    pub pages: u32,
+    pub attributes: u16,
+    pub id: u16,
+}
+
+// What an offset makes of a range: the first page that is reported, or none that the lock's rule allows.
+pub enum Shifted {
+    Page(u64),
+    Out,
+}
+
+// What a table alone decides.
+pub enum Judgement {
+    Accepted,
+    BadLength,
+    BadRecord,
+    EqualIdentities,
+}
+
+// What a lookup finds: a record's place, counted from 0, or none.
+pub enum Found {
+    At(usize),
+    Nothing,
+}

@@ -1,0 +1,39 @@
+// Where a record's fields stand, first and last byte: 01, "The table".
+pub const FUNCTION_ID: usize = 0;
+
+pub const STATE: usize = 4;
+
+pub const HELD: usize = 5;
+
+pub const FLAGS: usize = 6;
+
+pub const SESSION: usize = 9;
+
+pub const RANGE_COUNT: usize = 10;
+
+pub const INTERFACE_INFO: usize = 12;
+
+pub const OFFSET: usize = 24;
+
+pub const OFFSET_LAST: usize = 31;
+
+pub const NONCE: usize = 40;
+
+pub const NONCE_LAST: usize = 71;
+
+pub const RANGES: usize = 72;
+
+pub const RANGES_LAST: usize = 199;
+
+pub const INFORMATION_LENGTH: usize = 200;
+
+pub const INFORMATION: usize = 204;
+
+pub const INFORMATION_LAST: usize = 255;
+
+// A range's bytes, and how many ranges and how much information a record has at most.
+pub const RANGE_BYTES: usize = 16;
+
+pub const MOST_RANGES: u8 = 8;
+
+pub const MOST_INFORMATION: usize = 52;

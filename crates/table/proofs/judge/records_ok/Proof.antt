@@ -1,0 +1,42 @@
+-- `records_ok` meets its contract: what is left from record k on answers for the whole. Assumes nothing.
+use mathlib.Core.Path.{_≡_, refl}
+use Prim.Native.Nat.{_≤_, _-_}
+use lib.ListN.{drop}
+use borrow.Author.Needs.{needs}
+use Rattle.rules.proofs.Scan.{all-stop, all-next, all-end}
+use Rattle.rules.specs.Record.{recordOk}
+use Rattle.rules.specs.Table.{records, all}
+use Rattle.table.proofs.judge.records_ok.Statement.{statement}
+use Rattle.table.proofs.judge.records_ok.Tie as tie
+
+abbrev Inv-loop : tie.InvT-loop
+Inv-loop t n k₀ k = (k ≤ n) × (all recordOk (records t) ≡ all recordOk (drop k (records t)))
+
+abbrev μ-loop : tie.MeasureT-loop
+μ-loop t n k₀ k = n - k
+
+loop-holds : tie.Need-loop-holds Inv-loop μ-loop
+loop-holds c = (search needs, refl)
+
+returns : tie.Need-returns Inv-loop μ-loop
+returns c = search all-stop
+
+loop-again : tie.Need-loop-again Inv-loop μ-loop
+loop-again c = (search needs, search all-next)
+
+returns-2 : tie.Need-returns-2 Inv-loop μ-loop
+returns-2 c = search all-end
+
+pub records-ok-spec : {M : Type 1} → statement M
+records-ok-spec =
+    tie.close
+    (tie.spec
+    Inv-loop
+    μ-loop
+    loop-holds
+    (λ c κs. search needs)
+    returns
+    (λ c. search needs)
+    (λ c. search needs)
+    loop-again
+    returns-2)

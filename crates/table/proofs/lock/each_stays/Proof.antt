@@ -1,0 +1,46 @@
+-- `each_stays` meets its contract: every range before the k-th stays. Assumes nothing.
+use mathlib.Core.Path.{_≡_}
+use mathlib.Core.Bool.{true}
+use Prim.Native.Nat.{_≤_, _-_}
+use borrow.Author.Needs.{needs}
+use Rattle.rules.proofs.Every.{every-none, every-next, every-stop, every-done}
+use Rattle.rules.proofs.Ranges.{ok-at}
+use Rattle.rules.specs.Bytes.{every}
+use Rattle.rules.specs.Record.{rangeStays}
+use Rattle.table.proofs.lock.each_stays.Statement.{statement}
+use Rattle.table.proofs.lock.each_stays.Tie as tie
+
+abbrev Inv-loop : tie.InvT-loop
+Inv-loop r offset n k₀ k = (k ≤ n) × (true ≡ every k (rangeStays r offset))
+
+abbrev μ-loop : tie.MeasureT-loop
+μ-loop r offset n k₀ k = n - k
+
+loop-holds : tie.Need-loop-holds Inv-loop μ-loop
+loop-holds c = (search needs, every-none _)
+
+range-stays-requires : tie.Need-range-stays-requires Inv-loop μ-loop
+range-stays-requires c κs = (search needs, search needs, search ok-at)
+
+returns : tie.Need-returns Inv-loop μ-loop
+returns c = search every-stop
+
+loop-again : tie.Need-loop-again Inv-loop μ-loop
+loop-again c = (search needs, search every-next)
+
+returns-2 : tie.Need-returns-2 Inv-loop μ-loop
+returns-2 c = search every-done
+
+pub each-stays-spec : {M : Type 1} → statement M
+each-stays-spec =
+    tie.close
+    (tie.spec
+    Inv-loop
+    μ-loop
+    loop-holds
+    range-stays-requires
+    returns
+    (λ c. search needs)
+    (λ c. search needs)
+    loop-again
+    returns-2)

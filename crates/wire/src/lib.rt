@@ -1,0 +1,5 @@
+// The only code that puts bytes together or takes them apart: every field wider than a byte is low byte first.
+pub mod copy;
+pub mod identity;
+pub mod number;
+pub mod zero;
