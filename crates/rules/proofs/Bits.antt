@@ -10,7 +10,7 @@ use lib.Arith.{bin-ind}
 use lib.Bits.{bitAnd, and-step, and-shr, and-zero-r}
 use lib.Dec.{eqb, eqb·suc-zero}
 use lib.Pow.{shr-shr}
-use borrow.Author.Tests.{ne-eqb, eq-eqb}
+use borrow.Author.Tests.{ne-eqb, eq-eqb, eqb-true, eqb-false}
 use Rattle.rules.specs.Bytes.{bit, bitSet}
 use Rattle.rules.specs.Lock.{contains, supported}
 
@@ -82,6 +82,14 @@ no-fw-update-bit x = same-test (bitAnd x 1) 1 (bit 0 x) 1 (λ e. omega (arith, m
   where
     m : bitAnd x 1 ≡ x % 2 + 2 * 0
     m = and-bits (true ∷ []) x 1 refl
+
+pub flag-set : (x : ℕ) (b : Bool) → b ≡ contains x 1 → b ≡ true → bit 0 x ≡ 1
+flag-set x b p e = eqb-true (bit 0 x) 1 (sym (no-fw-update-bit x) ∙ sym p ∙ e)
+
+pub flag-clear : (x : ℕ) (b : Bool) → b ≡ contains x 1 → b ≡ false → bit 0 x ≡ 0
+flag-clear x b p e =
+    let f : bit 0 x ≡ 1 → ⊥ = eqb-false (bit 0 x) 1 (sym (no-fw-update-bit x) ∙ sym p ∙ e) in
+    omega arith
 
 pub lock-msix-bit : (x : ℕ) → contains x 4 ≡ bitSet 2 x
 lock-msix-bit x = same-test (bitAnd x 4) 4 (bit 2 x) 1 (λ e. omega (arith, m)) (λ e. omega (arith, m))

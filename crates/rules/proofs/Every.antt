@@ -5,6 +5,7 @@ use mathlib.Core.Logic.{⊎-elim}
 use Prim.Native.Nat.{ℕ, zero, suc, _+_, _<_, _≤_}
 use native.Mathlib.Nat.{le-of-suc-le-suc, not-suc-le-zero, eq-or-lt-of-le, le-antisymm}
 use native.Mathlib.Numerals.{add-one}
+use native.Mathlib.Omega.{arith}
 use borrow.Author.Tests.{not-true, not-false}
 use Rattle.rules.specs.Bytes.{every}
 use Rattle.rules.proofs.Bools.{and-true, and-false, and-left, and-right}
@@ -51,3 +52,15 @@ module _ (p : ℕ → Bool) where
   pub every-drops : (i : ℕ) → p i ≡ false → false ≡ every (i + 1) p
   unfolding every
   every-drops i e = rw (add-one, e) (sym (and-false (every i p)))
+
+-- tests that agree below n
+pub every-same : (n : ℕ) (p q : ℕ → Bool) → ((k : ℕ) → k < n → p k ≡ q k) → every n p ≡ every n q
+unfolding every
+every-same zero p q h = refl
+every-same (suc n) p q h = rw (every-same n p q (λ k l. h k (omega arith)), h n (omega arith))
+
+-- a test that passes below n
+pub every-true : (p : ℕ → Bool) (n : ℕ) → ((k : ℕ) → k < n → p k ≡ true) → every n p ≡ true
+unfolding every
+every-true p zero h = refl
+every-true p (suc n) h = rw (every-true p n (λ k l. h k (omega arith)), h n (omega arith))

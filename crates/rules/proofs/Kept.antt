@@ -1,15 +1,20 @@
 -- What a record that keeps its rules keeps, rule by rule. Assumes nothing.
 use mathlib.Core.Path.{_≡_}
 use mathlib.Core.Bool.{Bool, true, _&&_}
-use Prim.Native.Nat.{ℕ, _^_, _<_}
-use lib.Dec.{eqb}
-use Rattle.rules.specs.Bytes.{num}
+use mathlib.Core.List.{List}
+use Prim.Native.Nat.{ℕ, _^_, _≤_, _<_}
+use borrow.Author.Tests.{leb-true}
+use lib.Dec.{eqb, leb}
+use Rattle.rules.specs.Bytes.{byte, num}
 use Rattle.rules.specs.Identity.{same}
-use Rattle.rules.specs.Record.{Rec, functionId, identityOk, stateOk, nonceOk, countOk, interfaceOk, unusedOk, lockOk, rangesOk, informationOk, recordOk}
+use Rattle.rules.specs.Range.{mostRanges, eightRanges, rangeIn, allPages}
+use Rattle.rules.specs.Record.{Rec, mostInformation, functionId, rangeCount, rangeOf, informationLength, identityOk, stateOk, nonceOk, countOk, interfaceOk, unusedOk, lockOk, rangesOk, informationOk, recordOk}
 use Rattle.rules.specs.Table.{identity}
+use Rattle.rules.specs.declared.Range.{Range}
 use Rattle.rules.proofs.Bools.{and-left, and-right}
 use Rattle.rules.proofs.Identities.{same-equal}
 use Rattle.rules.proofs.Numbers.{Bytes, num-lt}
+use Rattle.rules.proofs.Ranges.{pages-read}
 
 pub record Keeps (r : Rec) : Type 0 where
   pub identity-ok : identityOk (functionId r) ≡ true
@@ -51,6 +56,19 @@ keeps r e =
       ranges-ok = and-right h (rangesOk r) i-ok;
       information-ok = and-right i (informationOk r) e;
     }
+
+-- at most eight ranges, and at most 52 bytes of information
+module _ (r : Rec) (ok : recordOk r ≡ true) where
+  pub count-most : rangeCount r ≤ mostRanges
+  count-most = leb-true (rangeCount r) mostRanges (and-left (leb (rangeCount r) mostRanges) (eqb (byte r 11) 0) (keeps r ok .count-ok))
+
+  pub information-most : informationLength r ≤ mostInformation
+  unfolding informationOk
+  information-most = leb-true (informationLength r) mostInformation (and-left (leb (informationLength r) mostInformation) _ (keeps r ok .information-ok))
+
+  -- and the pages of the ranges keep their rule, once read
+  pub pages-known : (n : ℕ) (ranges : List Range) → n ≡ rangeCount r → ranges ≡ eightRanges n (rangeOf r) → allPages n (rangeIn ranges) ≡ true
+  pages-known n ranges p e = rw p (pages-read r (keeps r ok .ranges-ok) ranges (rw p at e))
 
 -- refusal 3 is of equal FUNCTION_IDs: in records that keep their rules the identities are the same exactly if the four bytes are
 pub same-function-id : (r s : Rec) → Bytes r → Bytes s → recordOk r ≡ true → recordOk s ≡ true → same (identity r) (identity s) ≡ eqb (functionId r) (functionId s)

@@ -9,6 +9,14 @@ pub mod Records
 pub mod Scan
 pub mod Lookup
 pub mod Accepted
-pub mod Kept
+pub mod Listed
 pub mod Ranges
+pub mod Kept
+pub mod Written
+pub mod Sizes
+pub mod Writes
+pub mod ReadBack
+pub mod WriteBack
+pub mod RecordReport
+pub mod Portions
 pub mod Worked

@@ -2,11 +2,11 @@
 use mathlib.Core.Path.{_≡_, refl, sym, ap, _∙_}
 use mathlib.Core.List.{List, [], _∷_, _++_}
 use Prim.Native.Nat.{ℕ, zero, suc, _+_, _*_, _/_, _%_, _^_, _≤_, _<_}
-use native.Mathlib.Nat.{add-zero, zero-add, one-mul, suc-add, pow-zero, pow-succ', mul-assoc, mod-lt, mod-add-div}
+use native.Mathlib.Nat.{add-assoc, add-zero, zero-add, one-mul, suc-add, pow-zero, pow-succ', mul-assoc, mod-lt, mod-add-div}
 use native.Mathlib.Numerals.{add-one}
 use native.Mathlib.Omega.{arith}
-use lib.ListN.{length, drop, take}
-use lib.Seq.{getD-take, getD-drop, drop-cons}
+use lib.ListN.{length, drop, take, length-drop, List·getD-append}
+use lib.Seq.{getD-take, getD-drop, drop-cons, getD-append-add, take-append-le, drop-append-le}
 use Rattle.rules.specs.Bytes.{byte, num, bytesOf, part, over}
 use Rattle.rules.proofs.Parts.{over-next, part-over, over-part}
 
@@ -82,14 +82,15 @@ unfolding num
 num-tail b s at zero = refl
 num-tail b s at (suc n) = rw (suc-add, num-tail b s (at + 1) n)
 
-num-bytes : (n x : ℕ) → x < 256 ^ n → num (bytesOf n x) 0 n ≡ x
+pub num-bytes : (n x : ℕ) → x < 256 ^ n → num (bytesOf n x) 0 n ≡ x
 unfolding num bytesOf
 num-bytes zero x h = omega arith
 num-bytes (suc n) x h =
     let q = power n 1 in
     omega (arith, num-tail (x % 256) (bytesOf n (x / 256)) 0 n, num-bytes n (x / 256) (omega arith))
 
-bytes-num : (s : List ℕ) (at n : ℕ) → Bytes s → at + n ≤ length s → bytesOf n (num s at n) ≡ part s at n
+-- a number read and written
+pub bytes-num : (s : List ℕ) (at n : ℕ) → Bytes s → at + n ≤ length s → bytesOf n (num s at n) ≡ part s at n
 unfolding num bytesOf part
 bytes-num s at zero b h = refl
 bytes-num s at (suc n) b h =
@@ -108,3 +109,50 @@ module _ (s : List ℕ) (at n : ℕ) (fits : at + n ≤ length s) where
   -- bytes read and written
   pub read-written : Bytes s → over at (bytesOf n (num s at n)) s ≡ s
   read-written b = rw (bytes-num s at n b fits) (over-part at n s fits)
+
+-- ---- reading what was put together
+
+-- a number that ends within the first of two lists is read there
+pub num-append : (a b : List ℕ) (at n : ℕ) → at + n ≤ length a → num (a ++ b) at n ≡ num a at n
+unfolding num
+num-append a b at zero h = refl
+num-append a b at (suc n) h = rw (List·getD-append a b 0 at (omega arith), num-append a b (at + 1) n (omega arith))
+
+-- a number past the first list is read in the second
+pub num-past : (a b : List ℕ) (k at n : ℕ) → length a ≡ k → num (a ++ b) (k + at) n ≡ num b at n
+unfolding num
+num-past a b k at zero e = refl
+num-past a b k at (suc n) e =
+    let l = num-past a b k (at + 1) n e in
+    rw (add-assoc, l, ← e, getD-append-add)
+
+-- a part that ends within the first of two lists is cut there
+pub part-append : (a b : List ℕ) (at n : ℕ) → at + n ≤ length a → part (a ++ b) at n ≡ part a at n
+unfolding part
+part-append a b at n h =
+    let l : n ≤ length (drop at a) = rw length-drop (omega arith) in
+    rw (drop-append-le at a b (omega arith), take-append-le n (drop at a) b l)
+
+-- a number written behind a list
+pub num-last : (a : List ℕ) (at n x : ℕ) → length a ≡ at → x < 256 ^ n → num (a ++ bytesOf n x) at n ≡ x
+num-last a at n x e h =
+    let z : at ≡ at + 0 = omega arith in
+    ap (λ (k : ℕ). num (a ++ bytesOf n x) k n) z ∙ num-past a (bytesOf n x) at 0 n e ∙ num-bytes n x h
+
+-- ---- bytes of bytes
+
+pub bytes-append : (a b : List ℕ) → Bytes a → Bytes b → Bytes (a ++ b)
+bytes-append [] b f g i = g i
+bytes-append (x ∷ a) b f g zero = f 0
+bytes-append (x ∷ a) b f g (suc i) = bytes-append a b (λ j. f (suc j)) g i
+
+bytes-take : (n : ℕ) (s : List ℕ) → Bytes s → Bytes (take n s)
+bytes-take zero s f i = omega arith
+bytes-take (suc n) [] f i = omega arith
+bytes-take (suc n) (x ∷ s) f zero = f 0
+bytes-take (suc n) (x ∷ s) f (suc i) = bytes-take n s (λ j. f (suc j)) i
+
+-- every part of bytes is bytes
+pub bytes-part : (s : List ℕ) (at n : ℕ) → Bytes s → Bytes (part s at n)
+unfolding part
+bytes-part s at n f = bytes-take n (drop at s) (λ i. rw getD-drop (f (at + i)))

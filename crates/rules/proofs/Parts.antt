@@ -1,12 +1,12 @@
 -- Laws of `part` and `over`. Assumes nothing.
 use mathlib.Core.Path.{_≡_, refl, sym, ap, _∙_}
-use mathlib.Core.List.{List, [], _∷_, _++_, append-assoc}
+use mathlib.Core.List.{List, [], _∷_, _++_, append-assoc, append-nil}
 use Prim.Native.Nat.{ℕ, suc, _+_, _-_, _≤_, _<_}
-use native.Mathlib.Nat.{add-assoc, add-sub-cancel-left}
+use native.Mathlib.Nat.{add-zero, add-sub-cancel-left}
 use native.Mathlib.Numerals.{add-one}
 use native.Mathlib.Omega.{arith}
 use lib.ListN.{length, take, drop, set, length-append, length-take, length-drop, take-append-drop}
-use lib.Seq.{take-at, drop-at, drop-drop, set-split, length-take-le, take-length, append-snoc}
+use lib.Seq.{take-at, drop-at, drop-drop, set-split, length-take-le, take-length, take-add, append-snoc}
 use Rattle.rules.specs.Bytes.{part, over}
 
 -- what a callee is lent of `&s[at..end]`, where end is at + n
@@ -22,7 +22,21 @@ pub length-over : (at : ℕ) (new s : List ℕ) → at + length new ≤ length s
 unfolding over
 length-over at new s h = simp (length-append, length-take, length-drop) (omega arith)
 
+-- parts that touch join
+pub part-join : (s : List ℕ) (at m n : ℕ) → part s at m ++ part s (at + m) n ≡ part s at (m + n)
+unfolding part
+part-join s at m n = sym (rw (take-add m n (drop at s), drop-drop))
+
+-- all of it
+pub part-all : (s : List ℕ) → part s 0 (length s) ≡ s
+unfolding part
+part-all s = take-length s
+
 -- ---- writing
+
+pub over-nothing : (at : ℕ) (s : List ℕ) → over at [] s ≡ s
+unfolding over
+over-nothing at s = rw (append-nil, add-zero) (take-append-drop at s)
 
 -- one byte
 pub over-byte : (at b : ℕ) (s : List ℕ) → at < length s → set s at b ≡ over at (b ∷ []) s

@@ -1,7 +1,9 @@
 -- Document 01, a file a heading, in its order.
 pub mod Bytes
 pub mod Identity
+pub mod Range
 pub mod Lock
 pub mod Record
 pub mod Table
+pub mod Report
 pub mod Worked

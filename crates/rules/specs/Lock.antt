@@ -5,7 +5,8 @@ use lib.Bits.{bitAnd}
 use lib.Dec.{eqb, leb, ltb}
 use lib.IntN.{ℤ, pos, negsuc, natAbs, _+ℤ_}
 use lib.Signed.{quotZ}
-use Rattle.rules.specs.Bytes.{if_then_else_, bit, bitClear}
+use Rattle.rules.specs.Bytes.{if_then_else_, bit, bitClear, every}
+use Rattle.rules.specs.Range.{pagesEnd}
 use Rattle.rules.specs.declared.Range.{Range}
 use Rattle.rules.specs.declared.Shifted.{Shifted}
 use Rattle.rules.specs.declared.Shifted.the-variants.{Page, Out}
@@ -30,12 +31,9 @@ stored flags = bit 0 flags + bit 2 flags * 4
 abbrev pub signed : ℕ → ℤ
 signed x = if ltb x (2 ^ 63) then pos x else negsuc (2 ^ 64 - 1 - x)
 
--- a page's bytes, and where the pages end
+-- a page's bytes
 abbrev pub pageBytes : ℕ
 pageBytes = 4096
-
-abbrev pub pagesEnd : ℕ
-pagesEnd = 2 ^ 52
 
 -- It is a multiple of 4096,
 abbrev pub wholePages : ℤ → Bool
@@ -53,3 +51,6 @@ shifted offset range = fitted (pos (range .first) +ℤ quotZ offset (pos pageByt
 abbrev pub stays : Shifted → Bool
 stays (Page first) = true
 stays Out = false
+
+abbrev pub allStay : ℤ → ℕ → (ℕ → Range) → Bool
+allStay offset n ranges = every n (λ k. stays (shifted offset (ranges k)))

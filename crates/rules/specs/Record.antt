@@ -1,10 +1,11 @@
 -- Document 01, "The table (ours)": one record.
-use mathlib.Core.Bool.{Bool, true, false, not, _&&_, _||_}
+use mathlib.Core.Bool.{Bool, true, false, _&&_, _||_}
 use mathlib.Core.List.{List}
 use Prim.Native.Nat.{ℕ, _+_, _*_}
-use lib.Dec.{eqb, leb, ltb}
-use Rattle.rules.specs.Bytes.{if_then_else_, byte, num, bits, bitSet, bitClear, part, every, zeros}
-use Rattle.rules.specs.Lock.{stored, pagesEnd, signed, wholePages, shifted, stays}
+use lib.Dec.{eqb, leb}
+use Rattle.rules.specs.Bytes.{if_then_else_, byte, num, bits, bitSet, bitClear, part, zeros}
+use Rattle.rules.specs.Lock.{stored, signed, wholePages, allStay}
+use Rattle.rules.specs.Range.{mostRanges, rangeBytes, rangesFrom, allPages, allAttributes, neverFall, idsOf}
 use Rattle.rules.specs.declared.Range.{Range}
 
 -- a record's bytes
@@ -65,26 +66,16 @@ offset r = num r 24 8
 abbrev pub nonce : Rec → List ℕ
 nonce r = part r 40 32
 
--- eight ranges of 16 bytes, and 52 bytes of information, at most
-abbrev pub mostRanges : ℕ
-mostRanges = 8
-
-abbrev pub rangeBytes : ℕ
-rangeBytes = 16
-
+-- 52 bytes of information, at most
 abbrev pub mostInformation : ℕ
 mostInformation = 52
 
--- A range is first page (8), pages (4), attributes (2), range ID (2).
-abbrev pub rangeFrom : List ℕ → ℕ → Range
-rangeFrom s at = record { first = num s at 8; pages = num s (at + 8) 4; attributes = num s (at + 12) 2; id = num s (at + 14) 2 }
-
--- where range k stands
-abbrev pub rangePlace : ℕ → ℕ
-rangePlace k = 72 + k * rangeBytes
+-- where the ranges stand
+abbrev pub rangesPlace : ℕ
+rangesPlace = 72
 
 abbrev pub rangeOf : Rec → ℕ → Range
-rangeOf r k = rangeFrom r (rangePlace k)
+rangeOf r k = rangesFrom r rangesPlace k
 
 abbrev pub informationLength : Rec → ℕ
 informationLength r = num r 200 4
@@ -118,12 +109,9 @@ nonceOk r = if eqb (state r) CONFIG_LOCKED then eqb (held r) 1 else eqb (held r)
 abbrev pub flagsOk : ℕ → Bool
 flagsOk f = eqb (stored f) f
 
-abbrev pub rangeStays : Rec → ℕ → ℕ → Bool
-rangeStays r x k = stays (shifted (signed x) (rangeOf r k))
-
 -- the lock's rule, for the offset of an 8-byte number x: a multiple of 4096, with which every range stays
 unfoldable pub offsetOk : Rec → ℕ → Bool
-offsetOk r x = wholePages (signed x) && every (rangeCount r) (rangeStays r x)
+offsetOk r x = wholePages (signed x) && allStay (signed x) (rangeCount r) (rangeOf r)
 
 -- In states 0 and 3 bytes 6-9 and 24-31 are zero. In states 1 and 2 the flags use bits 0 and 2 only, and the offset meets the lock's rule.
 unfoldable pub lockOk : Rec → Bool
@@ -131,39 +119,13 @@ lockOk r =
     if eqb (state r) CONFIG_UNLOCKED || eqb (state r) ERROR then zeros r 6 9 && zeros r 24 31
     else flagsOk (flags r) && offsetOk r (offset r)
 
--- pages is at least 1, first + pages is at most 2^52,
-abbrev pub pagesOk : Range → Bool
-pagesOk range = leb 1 (range .pages) && leb (range .first + range .pages) pagesEnd
-
--- attribute bits 15:4 are zero
-abbrev pub attributesOk : Range → Bool
-attributesOk range = eqb (bits 15 4 (range .attributes)) 0
-
-unfoldable pub rangeOk : Range → Bool
-rangeOk range = pagesOk range && attributesOk range
-
-abbrev pub rangeOkAt : Rec → ℕ → Bool
-rangeOkAt r k = rangeOk (rangeOf r k)
-
--- not an ID of 0 to 7 and then one below it
-abbrev pub noFall : ℕ → ℕ → Bool
-noFall earlier later = not (leb earlier 7 && ltb later earlier)
-
--- none of the IDs before the j-th is followed by a fall to x
-abbrev pub noFallTo : (ℕ → ℕ) → ℕ → ℕ → Bool
-noFallTo ids j x = every j (λ k. noFall (ids k) x)
-
--- Among ranges with ID 0 to 7 the IDs never fall.
-unfoldable pub neverFall : ℕ → (ℕ → ℕ) → Bool
-neverFall n ids = every n (λ j. noFallTo ids j (ids j))
-
-abbrev pub idOf : Rec → ℕ → ℕ
-idOf r k = rangeOf r k .id
-
 -- the N ranges, and zero in the places past them
 unfoldable pub rangesOk : Rec → Bool
 rangesOk r =
-    every (rangeCount r) (rangeOkAt r) && neverFall (rangeCount r) (idOf r) && zeros r (rangePlace (rangeCount r)) 199
+    allPages (rangeCount r) (rangeOf r)
+    && allAttributes (rangeCount r) (rangeOf r)
+    && neverFall (rangeCount r) (idsOf (rangeOf r))
+    && zeros r (rangesPlace + rangeCount r * rangeBytes) 199
 
 -- device information length L, 0 to 52; the information, zero past L
 unfoldable pub informationOk : Rec → Bool

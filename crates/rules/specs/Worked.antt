@@ -7,6 +7,7 @@ use lib.IntN.{ℤ, pos, negℤ}
 use Rattle.rules.specs.Bytes.{num, bytesOf, blank, over}
 use Rattle.rules.specs.Lock.{signed, shifted}
 use Rattle.rules.specs.Record.{Rec, rangeOf, offsetOk}
+use Rattle.rules.specs.Report.{readNumber, readFields}
 use Rattle.rules.specs.Table.{recordBytes}
 use Rattle.rules.specs.declared.Shifted.the-variants.{Page, Out}
 
@@ -33,4 +34,9 @@ examples =
     -- First 2^52-1, pages 1, offset 0: accepted; 4096: 01h.
     ∷ (offsetOk (oneRange (2 ^ 52 - 1) 1) 0 ≡ true)
     ∷ (offsetOk (oneRange (2 ^ 52 - 1) 1) 4096 ≡ false)
+    -- Empty report: 20. Twenty zero bytes: accepted, N 0, L 0.
+    ∷ (readNumber [] ≡ 20)
+    ∷ (readNumber (blank 20) ≡ 0)
+    ∷ (readFields (blank 20) .n ≡ 0)
+    ∷ (readFields (blank 20) .l ≡ 0)
     ∷ []

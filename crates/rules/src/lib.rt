@@ -1,6 +1,7 @@
 // The types and the sizes that code and definitions share. Nothing here knows how the code works.
 pub mod flags;
 pub mod place;
+pub mod report;
 pub mod state;
 
 // 01, "The table": records of one fixed size, 1 to 64 of them.
@@ -37,6 +38,42 @@ pub struct Range {
 pub enum Shifted {
     Page(u64),
     Out,
+}
+
+// The fields of an interface report: N ranges and L bytes of information count, of eight and 52.
+pub struct ReportFields {
+    pub info: u16,
+    pub msix: u16,
+    pub lnr: u16,
+    pub tph: u32,
+    pub n: u32,
+    pub ranges: [Range; 8],
+    pub l: u32,
+    pub information: [u8; 52],
+}
+
+// What the report reader and writer find.
+pub enum ReportVerdict {
+    Accepted,
+    Short,
+    TooMany,
+    Longer,
+    Reserved,
+    BadPages,
+    FallingIds,
+    SmallOutput,
+}
+
+// What the reader hands back: zeros beside a refusal.
+pub struct ReadReport {
+    pub verdict: ReportVerdict,
+    pub fields: ReportFields,
+}
+
+// What the writer returns: length 0 beside a refusal.
+pub struct WrittenReport {
+    pub verdict: ReportVerdict,
+    pub length: usize,
 }
 
 // What a table alone decides.

@@ -13,6 +13,12 @@ pub const RANGE_COUNT: usize = 10;
 
 pub const INTERFACE_INFO: usize = 12;
 
+pub const MSIX_CONTROL: usize = 14;
+
+pub const LNR_CONTROL: usize = 16;
+
+pub const TPH_CONTROL: usize = 20;
+
 pub const OFFSET: usize = 24;
 
 pub const OFFSET_LAST: usize = 31;

@@ -8,7 +8,7 @@ use native.Mathlib.Omega.{arith}
 use borrow.Author.Tests.{leb-true, leb-false, le-leb, lt-leb, lt-ltb, le-ltb}
 use lib.Dec.{leb, ltb, leb·zero}
 use Rattle.rules.specs.Bytes.{if_then_else_, every}
-use Rattle.rules.specs.Record.{noFall, noFallTo, neverFall}
+use Rattle.rules.specs.Range.{noFall, noFallTo, neverFall}
 use Rattle.rules.proofs.Bools.{and-true, and-false}
 use Rattle.rules.proofs.Every.{every-fails, every-keeps}
 

@@ -4,5 +4,5 @@ pub mod identity;
 pub mod judge;
 mod lock;
 pub mod offset;
-mod range;
+pub mod range;
 pub mod record;

@@ -1,13 +1,13 @@
 // The lock's fields of a record.
-use crate::offset::shift;
+use crate::offset::all_stay;
 use crate::offset::whole_pages;
-use crate::range::range_of;
-use rules::Shifted;
+use crate::range::ranges_from;
 use rules::flags::LockFlags;
 use rules::place::FLAGS;
 use rules::place::OFFSET;
 use rules::place::OFFSET_LAST;
 use rules::place::RANGE_COUNT;
+use rules::place::RANGES;
 use rules::place::SESSION;
 use rules::place::STATE;
 use rules::state::CONFIG_UNLOCKED;
@@ -17,11 +17,10 @@ use wire::number::num64;
 use wire::zero::zero;
 ghost use mathlib.Core.Path.{_≡_};
 ghost use mathlib.Core.Bool.{true};
-ghost use Prim.Native.Nat.{_≤_, _<_};
+ghost use Prim.Native.Nat.{_≤_};
 ghost use lib.ListN.{length};
-ghost use Rattle.rules.specs.Bytes.{every};
-ghost use Rattle.rules.specs.Lock.{stays};
-ghost use Rattle.rules.specs.Record.{mostRanges, rangeCount, flagsOk, rangeOkAt, rangeStays, rangesOk, offsetOk, lockOk};
+ghost use Rattle.rules.specs.Range.{mostRanges};
+ghost use Rattle.rules.specs.Record.{rangeCount, flagsOk, rangesOk, offsetOk, lockOk};
 ghost use Rattle.rules.specs.Table.{recordBytes};
 
 // The flags use bits 0 and 2 only.
@@ -31,43 +30,14 @@ fn flags_ok(flags: u16) -> bool
     LockFlags(flags).stored().0 == flags
 }
 
-fn stays(s: Shifted) -> bool
-    ensures { λ b. ⌜ b ≡ stays s ⌝ }
-{
-    match s {
-        Shifted::Page(_) => true,
-        Shifted::Out => false,
-    }
-}
-
-fn range_stays(r: &[u8], offset: u64, k: usize) -> bool
-    requires { ⌜ (length (now r) ≡ recordBytes) × (k < mostRanges) × (rangeOkAt (now r) k ≡ true) ⌝ }
-    ensures { λ b. ⌜ b ≡ rangeStays (now (r .entry)) offset k ⌝ }
-{
-    stays(shift(offset, range_of(r, k)))
-}
-
-fn each_stays(r: &[u8], offset: u64, n: usize) -> bool
-    requires { ⌜ (length (now r) ≡ recordBytes) × (n ≤ mostRanges) × (every n (rangeOkAt (now r)) ≡ true) ⌝ }
-    ensures { λ b. ⌜ b ≡ every n (rangeStays (now (r .entry)) offset) ⌝ }
-{
-    let mut k = 0;
-    while k < n {
-        if !range_stays(r, offset, k) {
-            return false;
-        }
-        k += 1;
-    }
-    true
-}
-
 // The lock's rule, for a record whose ranges keep theirs.
 pub fn offset_ok(r: &[u8], offset: u64) -> bool
     requires { ⌜ (length (now r) ≡ recordBytes) × (rangeCount (now r) ≤ mostRanges) × (rangesOk (now r) ≡ true) ⌝ }
     ensures { λ b. ⌜ b ≡ offsetOk (now (r .entry)) offset ⌝ }
 {
     let n = r[RANGE_COUNT] as usize;
-    whole_pages(offset) & each_stays(r, offset, n)
+    let ranges = ranges_from(r, RANGES, n);
+    whole_pages(offset) & all_stay(offset, ranges, n)
 }
 
 pub fn lock_ok(r: &[u8]) -> bool

@@ -3,10 +3,12 @@ use rules::PAGES_END;
 use rules::Range;
 use rules::Shifted;
 ghost use mathlib.Core.Path.{_≡_};
+ghost use mathlib.Core.Bool.{true};
 ghost use Prim.Native.Nat.{_≤_};
 ghost use lib.IntN.{pos, _+ℤ_};
 ghost use lib.Signed.{quotZ};
-ghost use Rattle.rules.specs.Lock.{pageBytes, pagesEnd, signed, wholePages, fitted, shifted};
+ghost use Rattle.rules.specs.Range.{mostRanges, pagesEnd, rangeIn, pagesOk, allPages};
+ghost use Rattle.rules.specs.Lock.{pageBytes, signed, wholePages, fitted, shifted, stays, allStay};
 
 const PAGE_BYTES: i64 = 4096;
 
@@ -57,4 +59,36 @@ pub fn shift(x: u64, range: Range) -> Shifted
     ensures { λ r. ⌜ r ≡ shifted (signed x) range ⌝ }
 {
     shift_by(signed(x), range.first, range.pages)
+}
+
+fn stays(s: Shifted) -> bool
+    ensures { λ b. ⌜ b ≡ stays s ⌝ }
+{
+    match s {
+        Shifted::Page(_) => true,
+        Shifted::Out => false,
+    }
+}
+
+fn range_stays(x: u64, range: Range) -> bool
+    requires { ⌜ pagesOk range ≡ true ⌝ }
+    ensures { λ b. ⌜ b ≡ stays (shifted (signed x) range) ⌝ }
+{
+    stays(shift(x, range))
+}
+
+// Whether n ranges stay, with the offset.
+pub fn all_stay(x: u64, ranges: [Range; 8], n: usize) -> bool
+    requires { ⌜ (n ≤ mostRanges) × (allPages n (rangeIn ranges) ≡ true) ⌝ }
+    ensures { λ b. ⌜ b ≡ allStay (signed x) n (rangeIn ranges) ⌝ }
+{
+    let mut k = 0;
+    while k < n {
+        let range = ranges[k];
+        if !range_stays(x, range) {
+            return false;
+        }
+        k += 1;
+    }
+    true
 }

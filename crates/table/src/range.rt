@@ -1,24 +1,29 @@
-// One range of pages, and a record's ranges.
+// Ranges of pages, of a record or of a report: eight of them, of which n count.
 use rules::PAGES_END;
 use rules::Range;
 use rules::place::RANGE_BYTES;
-use rules::place::RANGE_COUNT;
-use rules::place::RANGES;
-use rules::place::RANGES_LAST;
 use wire::number::num16;
 use wire::number::num32;
 use wire::number::num64;
-use wire::zero::zero;
 ghost use mathlib.Core.Path.{_≡_};
-ghost use Prim.Native.Nat.{_+_, _≤_, _<_};
+ghost use Prim.Native.Nat.{_+_, _*_, _≤_};
 ghost use lib.Dec.{leb};
 ghost use lib.ListN.{length};
-ghost use Rattle.rules.specs.Bytes.{if_then_else_, every};
-ghost use Rattle.rules.specs.Record.{mostRanges, rangeBytes, rangeCount, rangeFrom, rangeOf, rangeOk, rangeOkAt, idOf, neverFall, rangesOk};
-ghost use Rattle.rules.specs.Table.{recordBytes};
+ghost use Rattle.rules.specs.Bytes.{if_then_else_};
+ghost use Rattle.rules.specs.Range.{mostRanges, rangeBytes, rangeFrom, rangesFrom, zeroRange, eightRanges, rangeIn, pagesOk, attributesOk, allPages, allAttributes, neverFall, idsOf};
 
-// The range whose 16 bytes start at a place.
-pub fn range_from(s: &[u8], at: usize) -> Range
+pub fn zero_range() -> Range
+    ensures { λ r. ⌜ r ≡ zeroRange ⌝ }
+{
+    Range {
+        first: 0,
+        pages: 0,
+        attributes: 0,
+        id: 0,
+    }
+}
+
+fn range_from(s: &[u8], at: usize) -> Range
     requires { ⌜ at + rangeBytes ≤ length (now s) ⌝ }
     ensures { λ r. ⌜ r ≡ rangeFrom (now (s .entry)) at ⌝ }
 {
@@ -30,35 +35,43 @@ pub fn range_from(s: &[u8], at: usize) -> Range
     }
 }
 
-// Range k of a record.
-pub fn range_of(r: &[u8], k: usize) -> Range
-    requires { ⌜ (length (now r) ≡ recordBytes) × (k < mostRanges) ⌝ }
-    ensures { λ x. ⌜ x ≡ rangeOf (now (r .entry)) k ⌝ }
+// N ranges that stand from a place on, and zero in the places past them.
+pub fn ranges_from(s: &[u8], base: usize, n: usize) -> [Range; 8]
+    requires { ⌜ (n ≤ mostRanges) × (base + n * rangeBytes ≤ length (now s)) ⌝ }
+    ensures { λ r. ⌜ r ≡ eightRanges n (rangesFrom (now (s .entry)) base) ⌝ }
 {
-    range_from(r, RANGES + k * RANGE_BYTES)
+    let range = zero_range();
+    let mut ranges = [range; 8];
+    let mut k = 0;
+    while k < n {
+        ranges[k] = range_from(s, base + k * RANGE_BYTES);
+        k += 1;
+    }
+    ranges
 }
 
-pub fn range_ok(range: Range) -> bool
-    ensures { λ b. ⌜ b ≡ rangeOk range ⌝ }
+fn pages_ok(range: Range) -> bool
+    ensures { λ b. ⌜ b ≡ pagesOk range ⌝ }
 {
     let pages = range.pages as u64;
-    (1 <= pages) & (range.first <= PAGES_END - pages) & (range.attributes / 16 % 4096 == 0)
+    (1 <= pages) & (range.first <= PAGES_END - pages)
 }
 
-fn range_ok_at(r: &[u8], k: usize) -> bool
-    requires { ⌜ (length (now r) ≡ recordBytes) × (k < mostRanges) ⌝ }
-    ensures { λ b. ⌜ b ≡ rangeOkAt (now (r .entry)) k ⌝ }
+fn attributes_ok(range: Range) -> bool
+    ensures { λ b. ⌜ b ≡ attributesOk range ⌝ }
 {
-    range_ok(range_of(r, k))
+    range.attributes / 16 % 4096 == 0
 }
 
-fn each_range(r: &[u8], n: usize) -> bool
-    requires { ⌜ (length (now r) ≡ recordBytes) × (n ≤ mostRanges) ⌝ }
-    ensures { λ b. ⌜ b ≡ every n (rangeOkAt (now (r .entry))) ⌝ }
+// The pages of n ranges keep their rule.
+pub fn all_pages(ranges: [Range; 8], n: usize) -> bool
+    requires { ⌜ n ≤ mostRanges ⌝ }
+    ensures { λ b. ⌜ b ≡ allPages n (rangeIn ranges) ⌝ }
 {
     let mut k = 0;
     while k < n {
-        if !range_ok_at(r, k) {
+        let x = ranges[k];
+        if !pages_ok(x) {
             return false;
         }
         k += 1;
@@ -66,11 +79,20 @@ fn each_range(r: &[u8], n: usize) -> bool
     true
 }
 
-fn id_of(r: &[u8], k: usize) -> u16
-    requires { ⌜ (length (now r) ≡ recordBytes) × (k < mostRanges) ⌝ }
-    ensures { λ id. ⌜ id ≡ idOf (now (r .entry)) k ⌝ }
+// The attributes of n ranges keep their rule.
+pub fn all_attributes(ranges: [Range; 8], n: usize) -> bool
+    requires { ⌜ n ≤ mostRanges ⌝ }
+    ensures { λ b. ⌜ b ≡ allAttributes n (rangeIn ranges) ⌝ }
 {
-    range_of(r, k).id
+    let mut k = 0;
+    while k < n {
+        let x = ranges[k];
+        if !attributes_ok(x) {
+            return false;
+        }
+        k += 1;
+    }
+    true
 }
 
 // The least ID that a later range of ID 0 to 7 may have, once a range has ID `id`.
@@ -80,14 +102,22 @@ fn least_after(least: u16, id: u16) -> u16
     if id <= 7 { id } else { least }
 }
 
-fn ids_never_fall(r: &[u8], n: usize) -> bool
-    requires { ⌜ (length (now r) ≡ recordBytes) × (n ≤ mostRanges) ⌝ }
-    ensures { λ b. ⌜ b ≡ neverFall n (idOf (now (r .entry))) ⌝ }
+fn id_of(range: Range) -> u16
+    ensures { λ r. ⌜ r ≡ range .id ⌝ }
+{
+    range.id
+}
+
+// The IDs of n ranges never fall.
+pub fn never_fall(ranges: [Range; 8], n: usize) -> bool
+    requires { ⌜ n ≤ mostRanges ⌝ }
+    ensures { λ b. ⌜ b ≡ neverFall n (idsOf (rangeIn ranges)) ⌝ }
 {
     let mut least = 0;
     let mut k = 0;
     while k < n {
-        let id = id_of(r, k);
+        let x = ranges[k];
+        let id = id_of(x);
         if id < least {
             return false;
         }
@@ -95,13 +125,4 @@ fn ids_never_fall(r: &[u8], n: usize) -> bool
         k += 1;
     }
     true
-}
-
-// The N ranges of a record, and zero in the places past them.
-pub fn ranges_ok(r: &[u8]) -> bool
-    requires { ⌜ (length (now r) ≡ recordBytes) × (rangeCount (now r) ≤ mostRanges) ⌝ }
-    ensures { λ b. ⌜ b ≡ rangesOk (now (r .entry)) ⌝ }
-{
-    let n = r[RANGE_COUNT] as usize;
-    each_range(r, n) & ids_never_fall(r, n) & zero(r, RANGES + n * RANGE_BYTES, RANGES_LAST)
 }

@@ -1,6 +1,9 @@
 // Whether a record keeps its rules.
 use crate::lock::lock_ok;
-use crate::range::ranges_ok;
+use crate::range::all_attributes;
+use crate::range::all_pages;
+use crate::range::never_fall;
+use crate::range::ranges_from;
 use rules::place::FUNCTION_ID;
 use rules::place::HELD;
 use rules::place::INFORMATION;
@@ -11,7 +14,10 @@ use rules::place::MOST_INFORMATION;
 use rules::place::MOST_RANGES;
 use rules::place::NONCE;
 use rules::place::NONCE_LAST;
+use rules::place::RANGE_BYTES;
 use rules::place::RANGE_COUNT;
+use rules::place::RANGES;
+use rules::place::RANGES_LAST;
 use rules::place::STATE;
 use rules::state::CONFIG_LOCKED;
 use rules::state::ERROR;
@@ -20,8 +26,10 @@ use wire::number::num16;
 use wire::number::num32;
 use wire::zero::zero;
 ghost use mathlib.Core.Path.{_≡_};
+ghost use Prim.Native.Nat.{_≤_};
 ghost use lib.ListN.{length};
-ghost use Rattle.rules.specs.Record.{functionId, identityOk, stateOk, nonceOk, countOk, interfaceOk, unusedOk, informationOk, recordOk};
+ghost use Rattle.rules.specs.Range.{mostRanges};
+ghost use Rattle.rules.specs.Record.{functionId, rangeCount, identityOk, stateOk, nonceOk, countOk, interfaceOk, unusedOk, rangesOk, informationOk, recordOk};
 ghost use Rattle.rules.specs.Table.{recordBytes};
 
 fn identity_ok(r: &[u8]) -> bool
@@ -57,6 +65,19 @@ fn unused_ok(r: &[u8]) -> bool
     ensures { λ b. ⌜ b ≡ unusedOk (now (r .entry)) ⌝ }
 {
     zero(r, 18, 19) & zero(r, 32, 39)
+}
+
+// The N ranges, and zero in the places past them.
+fn ranges_ok(r: &[u8]) -> bool
+    requires { ⌜ (length (now r) ≡ recordBytes) × (rangeCount (now r) ≤ mostRanges) ⌝ }
+    ensures { λ b. ⌜ b ≡ rangesOk (now (r .entry)) ⌝ }
+{
+    let n = r[RANGE_COUNT] as usize;
+    let ranges = ranges_from(r, RANGES, n);
+    all_pages(ranges, n)
+        & all_attributes(ranges, n)
+        & never_fall(ranges, n)
+        & zero(r, RANGES + n * RANGE_BYTES, RANGES_LAST)
 }
 
 fn information_ok(r: &[u8]) -> bool

@@ -1,0 +1,42 @@
+// What is in a report: 23 to 25.
+use rules::Range;
+use rules::ReportVerdict;
+use table::range::all_attributes;
+use table::range::all_pages;
+use table::range::never_fall;
+ghost use mathlib.Core.Path.{_≡_};
+ghost use Prim.Native.Nat.{_≤_};
+ghost use Rattle.rules.specs.Range.{mostRanges, rangeIn};
+ghost use Rattle.rules.specs.Report.{reportNumber, isAccepted, contentNumber};
+
+pub fn accepted(verdict: ReportVerdict) -> bool
+    ensures { λ b. ⌜ b ≡ isAccepted verdict ⌝ }
+{
+    match verdict {
+        ReportVerdict::Accepted => true,
+        ReportVerdict::Short => false,
+        ReportVerdict::TooMany => false,
+        ReportVerdict::Longer => false,
+        ReportVerdict::Reserved => false,
+        ReportVerdict::BadPages => false,
+        ReportVerdict::FallingIds => false,
+        ReportVerdict::SmallOutput => false,
+    }
+}
+
+// 23 over all ranges, before 24 is asked of any.
+pub fn content_verdict(info: u16, ranges: [Range; 8], n: usize) -> ReportVerdict
+    requires { ⌜ n ≤ mostRanges ⌝ }
+    ensures { λ r. ⌜ reportNumber r ≡ contentNumber info n (rangeIn ranges) ⌝ }
+{
+    if !((info / 32 % 2048 == 0) & all_attributes(ranges, n)) {
+        return ReportVerdict::Reserved;
+    }
+    if !all_pages(ranges, n) {
+        return ReportVerdict::BadPages;
+    }
+    if !never_fall(ranges, n) {
+        return ReportVerdict::FallingIds;
+    }
+    ReportVerdict::Accepted
+}
