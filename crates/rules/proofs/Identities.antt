@@ -43,6 +43,24 @@ pub same-refl : (a : Identity) → same a a ≡ true
 unfolding same
 same-refl a = rw (eqb-refl (a .requester .0)) (segments-refl (a .valid) (a .segment))
 
+-- ---- what arrives: bits 31:25, and a segment that is not marked valid, do not matter
+
+low-kept : (id : ℕ) → bits 15 0 (id % 2 ^ 25) ≡ bits 15 0 id
+low-kept id = omega arith
+
+segment-kept : (id : ℕ) → bits 23 16 (id % 2 ^ 25) ≡ bits 23 16 id
+segment-kept id = omega arith
+
+mark-kept : (id : ℕ) → bit 24 (id % 2 ^ 25) ≡ bit 24 id
+mark-kept id = omega arith
+
+pub top-ignored : (id : ℕ) → identityOf (id % 2 ^ 25) ≡ identityOf id
+top-ignored id = rw (low-kept id, segment-kept id, mark-kept id)
+
+pub unmarked-ignored : (a b : Identity) (s : ℕ) → a .valid ≡ false → same (record { requester = a .requester; segment = s; valid = a .valid }) b ≡ same a b
+unfolding same
+unmarked-ignored a b s e = rw e
+
 -- ---- in records that keep their rules, the same identity is an equal FUNCTION_ID
 
 last-bit : (q : ℕ) → q / 2 ≡ 0 → q % 2 ≡ q

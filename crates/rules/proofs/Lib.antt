@@ -5,6 +5,7 @@ pub mod Parts
 pub mod Numbers
 pub mod Bits
 pub mod Identities
+pub mod Offsets
 pub mod Records
 pub mod Scan
 pub mod Lookup

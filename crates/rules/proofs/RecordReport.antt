@@ -17,6 +17,7 @@ use Rattle.rules.specs.Lock.{contains, signed, pageBytes, wholePages, fi
 use Rattle.rules.specs.Range.{mostRanges, rangeBytes, eightRanges, rangeIn, pagesEnd, zeroRange, pagesOk, attributesOk}
 use Rattle.rules.specs.Record.{Rec, state, flags, rangeCount, interfaceInfo, msixControl, lnrControl, tphControl, offset, mostInformation, rangesPlace, rangeOf, informationLength, flagsOk, offsetOk, lockOk, informationOk, recordOk}
 use Rattle.rules.specs.Report.{mostReport, informationFrom, fieldRange, reportBytes, contentNumber, readNumber, writeNumber, lockMsix, pageOf, shownAttributes, shownRange, reportedRange, reportOf}
+use Rattle.rules.specs.Table.{recordBytes}
 use Rattle.rules.specs.declared.Range.{Range}
 use Rattle.rules.specs.declared.ReportFields.{ReportFields}
 use Rattle.rules.specs.declared.Shifted.{Shifted}
@@ -94,7 +95,7 @@ unfolding lockOk
 locked r h (inl e) = rw e at h
 locked r h (inr e) = rw e at h
 
-module _ (r : Rec) (long : length r ≡ 256) (b : Bytes r) (ok : recordOk r ≡ true) (s : (state r ≡ 1) ⊎ (state r ≡ 2)) where
+module _ (r : Rec) (long : length r ≡ recordBytes) (b : Bytes r) (ok : recordOk r ≡ true) (s : (state r ≡ 1) ⊎ (state r ≡ 2)) where
   -- each range stays, with the offset
   stays-at : (k : ℕ) → k < rangeCount r → stays (shifted (signed (offset r)) (rangeOf r k)) ≡ true
   unfolding offsetOk

@@ -92,11 +92,11 @@ nothing (At k) = false
 nothing Nothing = true
 
 -- the paper's numbers of a lookup: a register write whose interface is no record's gets 7,
-abbrev pub writeNumber : Found → ℕ
-writeNumber (At k) = 0
-writeNumber Nothing = 7
+abbrev pub lookupNumber : Found → ℕ
+lookupNumber (At k) = 0
+lookupNumber Nothing = 7
 
 -- and a request 101h INVALID_INTERFACE
-abbrev pub requestCode : Found → ℕ
-requestCode (At k) = 0
-requestCode Nothing = 0x101
+abbrev pub lookupCode : Found → ℕ
+lookupCode (At k) = 0
+lookupCode Nothing = 0x101
