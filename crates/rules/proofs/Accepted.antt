@@ -51,7 +51,7 @@ module _ (n : ℕ) (ok : lengthOk n ≡ true) where
   most = leb-true _ _ (and-right (leb recordBytes n) (leb n (mostRecords * recordBytes)) bounds)
 
 module _ (t : List ℕ) (accepted : tableNumber t ≡ 0) where
-  tests : (lengthOk (length t) ≡ true) × (all recordOk (records t) ≡ true) × (distinct (records t) ≡ true)
+  pub tests : (lengthOk (length t) ≡ true) × (all recordOk (records t) ≡ true) × (distinct (records t) ≡ true)
   unfolding tableNumber
   tests = passed (lengthOk (length t)) (all recordOk (records t)) (distinct (records t)) accepted
 

@@ -10,6 +10,8 @@ pub mod Records
 pub mod Scan
 pub mod Lookup
 pub mod Accepted
+pub mod Joined
+pub mod StaysAccepted
 pub mod Listed
 pub mod Ranges
 pub mod Kept
@@ -20,4 +22,15 @@ pub mod ReadBack
 pub mod WriteBack
 pub mod RecordReport
 pub mod Portions
+pub mod Overs
+pub mod Configured
+pub mod Rewritten
+pub mod Changes
+pub mod Effects
+pub mod Locks
+pub mod KeepsRules
+pub mod Serves
+pub mod Checks
+pub mod ServedCall
+pub mod Messages
 pub mod Worked

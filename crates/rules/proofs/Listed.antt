@@ -36,7 +36,7 @@ listed-at (suc n) k p d h =
     (λ l. List·getD-append (listed n p) (p n ∷ []) d k (omega (arith, length-listed n p)) ∙ listed-at n k p d l)
     (eq-or-lt-of-le (le-of-suc-le-suc h))
 
-same-at : {A : Type 0} (n k : ℕ) (d : A) → getD (replicate n d) k d ≡ d
+pub same-at : {A : Type 0} (n k : ℕ) (d : A) → getD (replicate n d) k d ≡ d
 same-at zero k d = refl
 same-at (suc n) zero d = refl
 same-at (suc n) (suc k) d = same-at n k d

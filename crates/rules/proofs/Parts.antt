@@ -2,11 +2,11 @@
 use mathlib.Core.Path.{_≡_, refl, sym, ap, _∙_}
 use mathlib.Core.List.{List, [], _∷_, _++_, append-assoc, append-nil}
 use Prim.Native.Nat.{ℕ, suc, _+_, _-_, _≤_, _<_}
-use native.Mathlib.Nat.{add-zero, add-sub-cancel-left}
+use native.Mathlib.Nat.{add-zero, zero-add, add-sub-cancel-left}
 use native.Mathlib.Numerals.{add-one}
 use native.Mathlib.Omega.{arith}
 use lib.ListN.{length, take, drop, set, length-append, length-take, length-drop, take-append-drop}
-use lib.Seq.{take-at, drop-at, drop-drop, set-split, length-take-le, take-length, take-add, append-snoc}
+use lib.Seq.{take-at, drop-at, drop-drop, set-split, length-take-le, take-length, drop-length, take-add, append-snoc}
 use Rattle.rules.specs.Bytes.{part, over}
 
 -- what a callee is lent of `&s[at..end]`, where end is at + n
@@ -52,6 +52,11 @@ over-next at n a b s h e =
     let rest : drop (at + n + length b) (take at s ++ a ++ drop (at + length a) s) ≡ drop (at + length (a ++ b)) s =
     sym (drop-drop (length b) (at + n) _) ∙ rw (drop-at (take at s ++ a) (drop (at + length a) s) (at + n) long, drop-drop, past) in
     rw (take-at (take at s ++ a) (drop (at + length a) s) (at + n) long, rest) (simp append-assoc)
+
+-- all of it
+pub over-all : (new s : List ℕ) → length new ≡ length s → over 0 new s ≡ new
+unfolding over
+over-all new s e = rw (zero-add, e, drop-length) (append-nil new)
 
 -- ---- there and back
 

@@ -68,3 +68,10 @@ zeroAt s first i = eqb (byte s (first + i)) 0
 -- the bytes from first to last are zero, both counted, as 01 writes 6-9
 unfoldable pub zeros : List ℕ → ℕ → ℕ → Bool
 zeros s first last = every (last + 1 - first) (zeroAt s first)
+
+-- two runs of bytes are the same
+abbrev pub sameAt : List ℕ → List ℕ → ℕ → Bool
+sameAt a b i = eqb (byte a i) (byte b i)
+
+unfoldable pub sameBytes : List ℕ → List ℕ → Bool
+sameBytes a b = eqb (length a) (length b) && every (length a) (sameAt a b)

@@ -6,4 +6,6 @@ pub mod Lock
 pub mod Record
 pub mod Table
 pub mod Report
+pub mod Request
+pub mod Call
 pub mod Worked

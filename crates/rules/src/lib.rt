@@ -2,6 +2,7 @@
 pub mod flags;
 pub mod place;
 pub mod report;
+pub mod request;
 pub mod state;
 
 // 01, "The table": records of one fixed size, 1 to 64 of them.
@@ -74,6 +75,29 @@ pub struct ReadReport {
 pub struct WrittenReport {
     pub verdict: ReportVerdict,
     pub length: usize,
+}
+
+// What the checks of a request find: an error's code and data, or the place of the record to serve.
+pub enum Verdict {
+    Error(u32, u32),
+    Serve(usize),
+}
+
+// Why a call is refused: the paper's numbers 1 to 7.
+pub enum Refusal {
+    TableLength,
+    TableRecord,
+    TableIdentities,
+    ReplyShort,
+    RequestShort,
+    Inputs,
+    Interface,
+}
+
+// What a call returns: the reply's length, or how many records moved; or why it is refused.
+pub enum Answer {
+    Served(usize),
+    Refused(Refusal),
 }
 
 // What a table alone decides.

@@ -2,4 +2,5 @@
 pub mod copy;
 pub mod identity;
 pub mod number;
+pub mod same;
 pub mod zero;
