@@ -2,7 +2,7 @@
 pub mod find;
 pub mod identity;
 pub mod judge;
-mod lock;
+pub mod lock;
 pub mod offset;
 pub mod range;
 pub mod record;

@@ -15,7 +15,7 @@ fn put_page(r: &mut [u8; 256], at: usize)
 }
 
 // A locked record with eight ranges of one page and 52 bytes of information.
-fn full_record() -> [u8; 256] {
+pub fn full_record() -> [u8; 256] {
     let mut r = [0u8; 256];
     r[4] = 1;
     r[5] = 1;

@@ -1,0 +1,23 @@
+-- `lock` meets its contract. Assumes nothing.
+use borrow.Author.Needs.{needs}
+use Rattle.rules.proofs.Messages.{locked-written}
+use Rattle.handlers.proofs.record.lock.Statement.{statement}
+use Rattle.handlers.proofs.record.lock.Tie as tie
+
+returns : tie.Need-returns
+returns c = search locked-written
+
+pub lock-spec : {M : Type 1} → statement M
+lock-spec =
+    tie.close
+    (tie.spec
+    (λ c κs. search needs)
+    (λ c. search needs)
+    (λ c κs. search needs)
+    (λ c. search needs)
+    (λ c κs. search needs)
+    (λ c κs. search needs)
+    (λ c κs. search needs)
+    (λ c κs. search needs)
+    (λ c. search needs)
+    returns)

@@ -1,0 +1,2 @@
+-- What the handlers promise, over what `rules` says. No rule stands here.
+pub mod Does
