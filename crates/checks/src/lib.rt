@@ -31,6 +31,7 @@ fn exact_length(kind: u8) -> usize
     }
 }
 
+// The type of a request, as the data of an error.
 fn wide(x: u8) -> u32
     ensures { λ r. ⌜ r ≡ x ⌝ }
 {

@@ -1,7 +1,7 @@
 // What each request does to the record that it names, and the reply it gets.
 mod get;
 mod lock;
-mod record;
+pub mod record;
 pub mod reply;
 pub mod serve;
 mod start;

@@ -42,9 +42,9 @@ pub fn run(r: &mut [u8])
     ensures { λ _. ⌜ now (r .exit) ≡ running (now (r .entry)) ⌝ }
 {
     let head = [RUN, 0];
-    let zeros = [0u8; 32];
+    let spent = [0u8; 32];
     copy_over(r, STATE, &head);
-    copy_over(r, NONCE, &zeros);
+    copy_over(r, NONCE, &spent);
 }
 
 // State 1, nonce held, the flags that are stored, stream and session: record bytes 4-9.

@@ -15,7 +15,7 @@ use table::judge::judge;
 ghost use mathlib.Core.Path.{_≡_};
 ghost use Prim.Native.Nat.{_≤_, _<_, _/_};
 ghost use lib.ListN.{length};
-ghost use Rattle.rules.specs.Call.{answered, carriedOut, Gives};
+ghost use Rattle.rules.specs.Call.{Request, carriedOut, step, Gives};
 ghost use Rattle.rules.specs.Request.{kindOf, exactLength, lent};
 ghost use Rattle.rules.specs.Table.{recordBytes, tableNumber};
 ghost use Rattle.rules.specs.declared.Answer.the-variants.{Served};
@@ -60,7 +60,7 @@ fn answer(
     session: Session,
 ) -> Answer
     requires { ⌜ tableNumber (now table) ≡ 0 ⌝ }
-    ensures { λ r. ⌜ Gives (answered (lent (now (request .entry)) (now (reply .entry)) (now (nonce .entry)) ready (now (streams .entry)) session) (now (table .entry))) r (now (reply .exit)) (now (table .exit)) ⌝ }
+    ensures { λ r. ⌜ Gives (step (Request (lent (now (request .entry)) (now (reply .entry)) (now (nonce .entry)) ready (now (streams .entry)) session)) (now (table .entry))) r (now (reply .exit)) (now (table .exit)) ⌝ }
 {
     if reply.len() < LEAST_REPLY {
         return Answer::Refused(Refusal::ReplyShort);
@@ -92,12 +92,10 @@ pub fn respond(
     streams: &[u8],
     session: Session,
 ) -> Answer
-    ensures { λ r. ⌜ Gives (answered (lent (now (request .entry)) (now (reply .entry)) (now (nonce .entry)) ready (now (streams .entry)) session) (now (table .entry))) r (now (reply .exit)) (now (table .exit)) ⌝ }
+    ensures { λ r. ⌜ Gives (step (Request (lent (now (request .entry)) (now (reply .entry)) (now (nonce .entry)) ready (now (streams .entry)) session)) (now (table .entry))) r (now (reply .exit)) (now (table .exit)) ⌝ }
 {
     match judge(table) {
-        Judgement::BadLength => Answer::Refused(Refusal::TableLength),
-        Judgement::BadRecord => Answer::Refused(Refusal::TableRecord),
-        Judgement::EqualIdentities => Answer::Refused(Refusal::TableIdentities),
+        Judgement::Refused(why) => Answer::Refused(why),
         Judgement::Accepted => answer(request, reply, table, nonce, ready, streams, session),
     }
 }

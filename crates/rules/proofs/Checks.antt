@@ -2,7 +2,7 @@
 use mathlib.Core.Path.{_≡_, refl, sym, ap, _∙_}
 use mathlib.Core.Bool.{Bool, true, false, not}
 use mathlib.Core.List.{List, []}
-use Prim.Native.Nat.{ℕ, _/_, _<_}
+use Prim.Native.Nat.{ℕ, suc, _/_, _<_}
 use native.Mathlib.Omega.{arith}
 use borrow.Author.Tests.{eq-eqb, ne-eqb, eqb-true, eqb-false}
 use lib.Dec.{eqb}
@@ -59,16 +59,18 @@ unfolding verdict
 to-serve k q rs =
     by (eqb (byte q 0) 0x10) (eqb (exactLength (kindOf q)) 0) refl (eqb (length q) (exactLength (kindOf q))) refl (find (identityAt q 4) rs) refl
   where
-    no : {A : Type 0} → _≡_ {A = ℕ} 0 1 → A
-    no e = absurd (omega arith)
+    -- what tells the verdicts apart
+    place : Verdict → ℕ
+    place (Error code datum) = 0
+    place (Serve j) = suc j
 
     by : (a b : Bool) → eqb (exactLength (kindOf q)) 0 ≡ b → (c : Bool) → eqb (length q) (exactLength (kindOf q)) ≡ c → (f : Found) → find (identityAt q 4) rs ≡ f
         → (if not a then Error 0x41 0 else if b then Error 0x07 (kindOf q) else if not c then Error 0x01 0 else lookedUp f) ≡ Serve k → ToServe q rs k
-    by false b p c r f s e = no (cc)
-    by true true p c r f s e = no (cc)
-    by true false p false r f s e = no (cc)
-    by true false p true r Nothing s e = no (cc)
-    by true false p true r (At j) s e = let w : j ≡ k = cc in record { listed = eqb-false _ _ p; exact = eqb-true _ _ r; found = s ∙ ap At w }
+    by false b p c r f s e = absurd (omega (arith, ap place e))
+    by true true p c r f s e = absurd (omega (arith, ap place e))
+    by true false p false r f s e = absurd (omega (arith, ap place e))
+    by true false p true r Nothing s e = absurd (omega (arith, ap place e))
+    by true false p true r (At j) s e = let w : j ≡ k = omega (arith, ap place e) in record { listed = eqb-false _ _ p; exact = eqb-true _ _ r; found = s ∙ ap At w }
 
 module _ (k : ℕ) (v : Verdict) (q t : List ℕ) (told : v ≡ verdict q (records t)) (serve : v ≡ Serve k) where
   pub serves : ToServe q (records t) k

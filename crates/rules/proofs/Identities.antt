@@ -43,6 +43,20 @@ pub same-refl : (a : Identity) → same a a ≡ true
 unfolding same
 same-refl a = rw (eqb-refl (a .requester .0)) (segments-refl (a .valid) (a .segment))
 
+segments-like : (u v w : Bool) (r s t : ℕ) → segments u v r s ≡ true → segments u w r t ≡ segments v w s t
+segments-like true true w r s t e = rw (eqb-true r s e)
+segments-like true false w r s t e = clash (sym e)
+segments-like false true w r s t e = clash (sym e)
+segments-like false false w r s t e = refl
+
+-- the same as one, the same as all that it is the same as
+pub same-like : (a b c : Identity) → same a b ≡ true → same a c ≡ same b c
+unfolding same
+same-like a b c e =
+    let low = eqb (a .requester .0) (b .requester .0) in
+    let rest = segments (a .valid) (b .valid) (a .segment) (b .segment) in
+    rw (eqb-true (a .requester .0) (b .requester .0) (and-left low rest e), segments-like (a .valid) (b .valid) (c .valid) (a .segment) (b .segment) (c .segment) (and-right low rest e))
+
 -- ---- what arrives: bits 31:25, and a segment that is not marked valid, do not matter
 
 low-kept : (id : ℕ) → bits 15 0 (id % 2 ^ 25) ≡ bits 15 0 id

@@ -1,9 +1,10 @@
 -- A record that keeps its rules keeps them after every request. Assumes nothing.
-use mathlib.Core.Path.{_≡_, ap, _∙_}
-use mathlib.Core.Bool.{true, _&&_}
+use mathlib.Core.Path.{_≡_, refl, ap, _∙_}
+use mathlib.Core.Bool.{true, false, _&&_, _||_}
 use mathlib.Core.List.{List}
 use Prim.Native.Nat.{ℕ, _+_, _*_, _/_, _<_}
 use native.Mathlib.Omega.{arith}
+use lib.Dec.{eqb, leb}
 use lib.ListN.{length}
 use borrow.Author.Tests.{eq-eqb}
 use Rattle.rules.specs.Bytes.{byte, bit}
@@ -44,22 +45,14 @@ stored-stored f = stored-bits (bit 0 f) (bit 2 f) (omega arith) (omega arith)
 -- ---- each change
 
 module _ (r : Rec) (long : length r ≡ recordBytes) (ok : recordOk r ≡ true) where
-  -- a cleared record keeps its rules in CONFIG_UNLOCKED, and in ERROR
-  pub cleared-keeps : recordOk (cleared 0 r) ≡ true
+  -- a cleared record keeps its rules in a state of 0 to 3 in which no nonce is held and the lock fields are zero: CONFIG_UNLOCKED and ERROR
+  pub cleared-keeps : (s : ℕ) → leb s 3 ≡ true → eqb s 1 ≡ false → eqb s 0 || eqb s 3 ≡ true → recordOk (cleared s r) ≡ true
   unfolding lockOk
-  cleared-keeps =
-      configured-keeps (cleared 0 r) r (kept-cleared r long 0) ok
-      (rw (state-cleared r long 0))
-      (rw (state-cleared r long 0, held-cleared r long 0, nonce-cleared r long 0))
-      (rw (state-cleared r long 0, head-cleared r long 0, offset-cleared r long 0))
-
-  pub cleared-error-keeps : recordOk (cleared 3 r) ≡ true
-  unfolding lockOk
-  cleared-error-keeps =
-      configured-keeps (cleared 3 r) r (kept-cleared r long 3) ok
-      (rw (state-cleared r long 3))
-      (rw (state-cleared r long 3, held-cleared r long 3, nonce-cleared r long 3))
-      (rw (state-cleared r long 3, head-cleared r long 3, offset-cleared r long 3))
+  cleared-keeps s known unheld unlocked =
+      configured-keeps (cleared s r) r (kept-cleared r long s) ok
+      (rw (state-cleared r long s, known))
+      (rw (state-cleared r long s, unheld, held-cleared r long s, nonce-cleared r long s))
+      (rw (state-cleared r long s, unlocked, head-cleared r long s, offset-cleared r long s))
 
   -- a record that was locked keeps its rules in RUN
   pub running-keeps : state r ≡ 1 → recordOk (running r) ≡ true
@@ -93,4 +86,4 @@ effect-keeps l r long b n-long ok = by (effect l r) (effect-becomes l r)
     by e Becomes.same = ok
     by e (Becomes.locks k z f o s t) = locked-keeps r long ok (l .request) (l .nonce) (l .session) n-long b o
     by e (Becomes.runs k z n) = running-keeps r long ok z
-    by e Becomes.clears = cleared-keeps r long ok
+    by e Becomes.clears = cleared-keeps r long ok 0 refl refl refl

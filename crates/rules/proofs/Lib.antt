@@ -32,5 +32,11 @@ pub mod KeepsRules
 pub mod Serves
 pub mod Checks
 pub mod ServedCall
+pub mod Lending
+pub mod Refusals
+pub mod Moved
+pub mod Swept
+pub mod Changed
+pub mod Stepped
 pub mod Messages
 pub mod Worked

@@ -15,8 +15,8 @@ use borrow.Author.Tests.{leb-true, le-leb, ltb-true, ltb-false, le-ltb, eqb-true
 use Rattle.rules.specs.Bytes.{if_then_else_, byte, bit, bits, bitClear, blank, part, every}
 use Rattle.rules.specs.Lock.{contains, signed, pageBytes, wholePages, fitted, shifted, stays, allStay}
 use Rattle.rules.specs.Range.{mostRanges, rangeBytes, eightRanges, rangeIn, pagesEnd, zeroRange, pagesOk, attributesOk}
-use Rattle.rules.specs.Record.{Rec, state, flags, rangeCount, interfaceInfo, msixControl, lnrControl, tphControl, offset, mostInformation, rangesPlace, rangeOf, informationLength, flagsOk, offsetOk, lockOk, informationOk, recordOk}
-use Rattle.rules.specs.Report.{mostReport, informationFrom, fieldRange, reportBytes, contentNumber, readNumber, writeNumber, lockMsix, pageOf, shownAttributes, shownRange, reportedRange, reportOf}
+use Rattle.rules.specs.Record.{Rec, state, flags, lockMsix, rangeCount, interfaceInfo, msixControl, lnrControl, tphControl, offset, mostInformation, rangesPlace, rangeOf, informationLength, flagsOk, offsetOk, lockOk, informationOk, recordOk}
+use Rattle.rules.specs.Report.{mostReport, informationFrom, fieldRange, reportBytes, contentNumber, readNumber, writeNumber, pageOf, shownAttributes, shownRange, reportedRange, reportOf}
 use Rattle.rules.specs.Table.{recordBytes}
 use Rattle.rules.specs.declared.Range.{Range}
 use Rattle.rules.specs.declared.ReportFields.{ReportFields}

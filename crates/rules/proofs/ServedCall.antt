@@ -39,7 +39,7 @@ record OnRecord (l : Lent) (t : List ℕ) (k : ℕ) : Type 0 where
 
 -- refused with a number, an error, or carried out
 data Answers (l : Lent) (t : List ℕ) : Outcome → Type 0 where
-  refuses : (n : ℕ) → (n ≡ 0 → ⊥) → Answers l t (refused n l t)
+  refuses : (n : ℕ) → (n ≡ 0 → ⊥) → Answers l t (refused n (l .reply) t)
   errs : (m : List ℕ) → Answers l t (served m l t)
   carries : (k : ℕ) → OnRecord l t k → Answers l t (carriedOut (Serve k) l t)
 
@@ -51,7 +51,7 @@ answered-is l t =
   where
     go : (a : Bool) → eqb (tableNumber t) 0 ≡ a → (b c d : Bool) → eqb (length (l .streams)) 32 && eqb (length (l .nonce)) 32 ≡ d
         → (v : Verdict) → verdict (l .request) (records t) ≡ v
-        → Answers l t (if not a then refused (tableNumber t) l t else if b then refused 4 l t else if c then refused 5 l t else if not d then refused 6 l t else carriedOut v l t)
+        → Answers l t (if not a then refused (tableNumber t) (l .reply) t else if b then refused 4 (l .reply) t else if c then refused 5 (l .reply) t else if not d then refused 6 (l .reply) t else carriedOut v l t)
     go false p b c d q v e = refuses (tableNumber t) (eqb-false (tableNumber t) 0 p)
     go true p true c d q v e = refuses 4 (λ z. omega arith)
     go true p false true d q v e = refuses 5 (λ z. omega arith)

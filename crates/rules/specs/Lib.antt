@@ -7,5 +7,6 @@ pub mod Record
 pub mod Table
 pub mod Report
 pub mod Request
+pub mod Change
 pub mod Call
 pub mod Worked

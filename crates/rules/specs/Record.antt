@@ -3,7 +3,7 @@ use mathlib.Core.Bool.{Bool, true, false, _&&_, _||_}
 use mathlib.Core.List.{List}
 use Prim.Native.Nat.{ℕ, _+_, _*_}
 use lib.Dec.{eqb, leb}
-use Rattle.rules.specs.Bytes.{if_then_else_, byte, num, bits, bitSet, bitClear, part, zeros}
+use Rattle.rules.specs.Bytes.{if_then_else_, byte, num, bits, bit, bitSet, bitClear, part, zeros}
 use Rattle.rules.specs.Lock.{stored, signed, wholePages, allStay}
 use Rattle.rules.specs.Range.{mostRanges, rangeBytes, rangesFrom, allPages, allAttributes, neverFall, idsOf}
 use Rattle.rules.specs.declared.Range.{Range}
@@ -38,6 +38,13 @@ held r = byte r 5
 
 abbrev pub flags : Rec → ℕ
 flags r = num r 6 2
+
+-- bits 0 NO_FW_UPDATE and 2 LOCK_MSIX of the flags
+abbrev pub noFwUpdate : Rec → ℕ
+noFwUpdate r = bit 0 (flags r)
+
+abbrev pub lockMsix : Rec → Bool
+lockMsix r = bitSet 2 (flags r)
 
 abbrev pub stream : Rec → ℕ
 stream r = byte r 8

@@ -8,7 +8,7 @@ use lib.ListN.{length, take, replicate}
 use Rattle.rules.specs.Bytes.{if_then_else_, num, bytesOf, bit, bits, bitSet, blank, part, over, zeros}
 use Rattle.rules.specs.Lock.{signed, shifted}
 use Rattle.rules.specs.Range.{mostRanges, rangeBytes, rangesFrom, bytesOfRange, zeroRange, eightRanges, rangeIn, allPages, allAttributes, neverFall, idsOf}
-use Rattle.rules.specs.Record.{Rec, mostInformation, flags, interfaceInfo, msixControl, lnrControl, tphControl, offset, rangeCount, rangeOf, informationLength}
+use Rattle.rules.specs.Record.{Rec, mostInformation, noFwUpdate, lockMsix, interfaceInfo, msixControl, lnrControl, tphControl, offset, rangeCount, rangeOf, informationLength}
 use Rattle.rules.specs.declared.Range.{Range}
 use Rattle.rules.specs.declared.ReadReport.{ReadReport}
 use Rattle.rules.specs.declared.ReportFields.{ReportFields}
@@ -178,12 +178,6 @@ normal f = record {
 }
 
 -- ---- the report of a record
-
-abbrev pub noFwUpdate : Rec → ℕ
-noFwUpdate r = bit 0 (flags r)
-
-abbrev pub lockMsix : Rec → Bool
-lockMsix r = bitSet 2 (flags r)
 
 -- with shifted first page
 abbrev pub pageOf : Shifted → ℕ

@@ -11,7 +11,8 @@ use Rattle.rules.specs.declared.Identity.{Identity}
 use Rattle.rules.specs.declared.Found.{Found}
 use Rattle.rules.specs.declared.Found.the-variants.{At, Nothing}
 use Rattle.rules.specs.declared.Judgement.{Judgement}
-use Rattle.rules.specs.declared.Judgement.the-variants.{Accepted, BadLength, BadRecord, EqualIdentities}
+use Rattle.rules.specs.declared.Refusal.{Refusal}
+use Rattle.rules.specs.declared.Refusal.the-variants.{TableLength, TableRecord, TableIdentities, ReplyShort, RequestShort, Inputs, Interface}
 
 -- bytes of a record, and how many records a table has at most
 abbrev pub recordBytes : ℕ
@@ -70,12 +71,20 @@ tableNumber t =
     else if not (distinct (records t)) then 3
     else 0
 
--- the paper's number of a judgement
+-- this paper's numbers of the refusals,
+abbrev pub refusalNumber : Refusal → ℕ
+refusalNumber TableLength = 1
+refusalNumber TableRecord = 2
+refusalNumber TableIdentities = 3
+refusalNumber ReplyShort = 4
+refusalNumber RequestShort = 5
+refusalNumber Inputs = 6
+refusalNumber Interface = 7
+
+-- and of a judgement
 abbrev pub judgementNumber : Judgement → ℕ
-judgementNumber Accepted = 0
-judgementNumber BadLength = 1
-judgementNumber BadRecord = 2
-judgementNumber EqualIdentities = 3
+judgementNumber Judgement.Accepted = 0
+judgementNumber (Judgement.Refused why) = refusalNumber why
 
 -- ---- lookup by identity
 
@@ -91,12 +100,7 @@ abbrev pub nothing : Found → Bool
 nothing (At k) = false
 nothing Nothing = true
 
--- the paper's numbers of a lookup: a register write whose interface is no record's gets 7,
+-- the paper's numbers of a lookup: a register write whose interface is no record's gets 7. (A request gets an error: `lookedUp` in Request.)
 abbrev pub lookupNumber : Found → ℕ
 lookupNumber (At k) = 0
 lookupNumber Nothing = 7
-
--- and a request 101h INVALID_INTERFACE
-abbrev pub lookupCode : Found → ℕ
-lookupCode (At k) = 0
-lookupCode Nothing = 0x101

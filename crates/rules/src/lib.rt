@@ -83,6 +83,21 @@ pub enum Verdict {
     Serve(usize),
 }
 
+// What a register write of a class may do: 01, "Changes".
+pub enum Rule {
+    Allowed,
+    Error,
+    MsixRule,
+    DeviceWide,
+}
+
+// A device-wide change: of all interfaces, of those on a stream, of those of a session.
+pub enum Event {
+    Multicast,
+    StreamDown(Stream),
+    SessionEnd(Session),
+}
+
 // Why a call is refused: the paper's numbers 1 to 7.
 pub enum Refusal {
     TableLength,
@@ -100,12 +115,17 @@ pub enum Answer {
     Refused(Refusal),
 }
 
+// What the firmware question returns: no beside a refusal.
+pub enum FirmwareAnswer {
+    Yes,
+    No,
+    Refused(Refusal),
+}
+
 // What a table alone decides.
 pub enum Judgement {
     Accepted,
-    BadLength,
-    BadRecord,
-    EqualIdentities,
+    Refused(Refusal),
 }
 
 // What a lookup finds: a record's place, counted from 0, or none.

@@ -7,6 +7,8 @@ pub const HELD: usize = 5;
 
 pub const FLAGS: usize = 6;
 
+pub const STREAM: usize = 8;
+
 pub const SESSION: usize = 9;
 
 pub const RANGE_COUNT: usize = 10;

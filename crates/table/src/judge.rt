@@ -6,6 +6,7 @@ use crate::record::record_ok;
 use rules::Judgement;
 use rules::MOST_RECORDS;
 use rules::RECORD_BYTES;
+use rules::Refusal;
 ghost use mathlib.Core.Path.{_≡_};
 ghost use Prim.Native.Nat.{_+_, _<_, _/_};
 ghost use lib.ListN.{length, drop};
@@ -68,13 +69,13 @@ pub fn judge(t: &[u8]) -> Judgement
     ensures { λ r. ⌜ judgementNumber r ≡ tableNumber (now (t .entry)) ⌝ }
 {
     if !length_ok(t.len()) {
-        return Judgement::BadLength;
+        return Judgement::Refused(Refusal::TableLength);
     }
     if !records_ok(t) {
-        return Judgement::BadRecord;
+        return Judgement::Refused(Refusal::TableRecord);
     }
     if !identities_differ(t) {
-        return Judgement::EqualIdentities;
+        return Judgement::Refused(Refusal::TableIdentities);
     }
     Judgement::Accepted
 }

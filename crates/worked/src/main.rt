@@ -1,12 +1,6 @@
-// Runs the worked lines of document 01 that are not marked (P), and cases beside them, and compares each with what the paper says.
-mod ask;
-mod errors;
-mod lock;
+// Runs the worked lines of document 01 on reports that are not marked (P), and cases beside them, and compares each with what the paper says.
 mod portion;
-mod print;
 mod reader;
-mod refusals;
-mod requests;
 mod writer;
 
 fn main() {
@@ -14,8 +8,4 @@ fn main() {
     reader::contents();
     writer::cases();
     portion::last_byte();
-    requests::in_a_row();
-    requests::last_byte();
-    errors::cases();
-    refusals::cases();
 }

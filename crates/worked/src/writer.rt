@@ -1,7 +1,7 @@
 // The report writer's cases.
-use crate::print::bytes;
-use crate::print::case;
-use crate::print::number;
+use compare::case;
+use compare::front;
+use compare::number;
 use report::write::write_report;
 use rules::Range;
 use rules::ReportFields;
@@ -32,39 +32,36 @@ fn fields(n: u32, l: u32, first: u64, attributes: u16) -> ReportFields {
     }
 }
 
-fn written(name: &[u8], f: ReportFields, out: &mut [u8], want: u64, length: u64) {
-    let r = write_report(f, out);
+// The writer on such fields: its verdict and its length.
+fn written(
+    name: &[u8],
+    n: u32,
+    l: u32,
+    first: u64,
+    attributes: u16,
+    out: &mut [u8],
+    want: u64,
+    length: u64,
+) {
+    let r = write_report(fields(n, l, first, attributes), out);
     let verdict = r.verdict;
     case(name, number(verdict), want);
     case(b"  and its length", r.length as u64, length);
 }
 
-fn on_short(out: &mut [u8]) {
-    written(
-        b"an output of 199 bytes with N = 9",
-        fields(9, 0, 0, 0),
-        out,
-        26,
-        0,
-    );
-}
-
 fn too_many(out: &mut [u8]) {
-    written(b"N = 9", fields(9, 0, 0, 0), out, 21, 0);
-    written(b"L = 53", fields(0, 53, 0, 0), out, 21, 0);
+    written(b"N = 9", 9, 0, 0, 0, out, 21, 0);
+    written(b"L = 53", 0, 53, 0, 0, out, 21, 0);
 }
 
 fn bad_range(out: &mut [u8]) {
-    written(
-        b"attribute bit 4 in the range",
-        fields(1, 0, 0, 16),
-        out,
-        23,
-        0,
-    );
+    written(b"attribute bit 4 in the range", 1, 0, 0, 16, out, 23, 0);
     written(
         b"a first page of 2^52",
-        fields(1, 0, 4503599627370496, 0),
+        1,
+        0,
+        4503599627370496,
+        0,
         out,
         24,
         0,
@@ -80,7 +77,10 @@ fn accepted(out: &mut [u8]) {
     );
     written(
         b"rubbish past N and L",
-        fields(1, 1, 283686952306183, 10),
+        1,
+        1,
+        283686952306183,
+        10,
         out,
         0,
         37,
@@ -92,19 +92,18 @@ fn accepted(out: &mut [u8]) {
     );
 }
 
-// The first 40 bytes.
-fn front(name: &[u8], out: &[u8], want: &[u8]) {
-    if out.len() < 40 {
-        return;
-    }
-    let first = 0;
-    let end = 40;
-    bytes(name, &out[first..end], want);
-}
-
-pub fn cases() {
+pub(crate) fn cases() {
     let mut short = [238u8; 199];
-    on_short(&mut short);
+    written(
+        b"an output of 199 bytes with N = 9",
+        9,
+        0,
+        0,
+        0,
+        &mut short,
+        26,
+        0,
+    );
     let mut long = [238u8; 200];
     too_many(&mut long);
     bad_range(&mut long);

@@ -1,6 +1,7 @@
 -- `respond` meets its contract: the table's refusals, then `answer`. Assumes nothing.
 use borrow.Author.Needs.{needs}
-use Rattle.responder.proofs.Answers.{judged-accepted, judged}
+use Rattle.rules.proofs.Refusals.{judged-accepted}
+use Rattle.responder.proofs.Answers.{judged}
 use Rattle.responder.proofs.respond.Statement.{statement}
 use Rattle.responder.proofs.respond.Tie as tie
 
@@ -11,13 +12,7 @@ returns : tie.Need-returns
 returns c = search judged
 
 returns-2 : tie.Need-returns-2
-returns-2 c = search judged
-
-returns-3 : tie.Need-returns-3
-returns-3 c = search judged
-
-returns-4 : tie.Need-returns-4
-returns-4 c = search needs
+returns-2 c = search needs
 
 pub respond-spec : {M : Type 1} → statement M
 respond-spec =
@@ -26,15 +21,9 @@ respond-spec =
     (λ c κs. search needs)
     (λ c. search needs)
     (λ c. search needs)
-    (λ c. search needs)
-    (λ c. search needs)
     answer-requires
     (λ c. search needs)
     returns
     (λ c. search needs)
-    returns-2
     (λ c. search needs)
-    returns-3
-    (λ c. search needs)
-    (λ c. search needs)
-    returns-4)
+    returns-2)

@@ -1,6 +1,7 @@
 -- `serve_at` meets its contract: the record that is lent, written, is the record of the table. Assumes nothing.
 use borrow.Author.Needs.{needs}
-use Rattle.responder.proofs.Answers.{lent-length, lent-ok, record-back}
+use Rattle.rules.proofs.Lending.{lent-length, lent-ok}
+use Rattle.responder.proofs.Answers.{record-back}
 use Rattle.responder.proofs.serve_at.Statement.{statement}
 use Rattle.responder.proofs.serve_at.Tie as tie
 

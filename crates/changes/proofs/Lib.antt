@@ -1,0 +1,7 @@
+-- Laws that belong to no one function.
+pub mod OverRange
+pub mod Hitting
+pub mod Moving
+pub mod Sweeping
+pub mod Writing
+pub mod Happening

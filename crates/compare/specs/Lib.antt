@@ -1,0 +1,2 @@
+-- What the programs start from. No rule stands here.
+pub mod Full

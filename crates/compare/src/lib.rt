@@ -1,0 +1,174 @@
+// One line a case: what it is, what came, what the paper says. What prints a case returns whether the two are the same.
+pub mod record;
+
+use libc::STDOUT_FILENO;
+use rules::Answer;
+use rules::Refusal;
+use rules::ReportVerdict;
+use wire::same::same_bytes;
+ghost use mathlib.Core.Path.{_≡_};
+ghost use mathlib.Core.Bool.{_&&_};
+ghost use Prim.Native.Nat.{_≤_, min};
+ghost use lib.Dec.{eqb};
+ghost use lib.ListN.{length, take, drop};
+ghost use Rattle.rules.specs.Bytes.{sameBytes};
+ghost use Rattle.rules.specs.Call.{answerNumber, answerValue};
+ghost use Rattle.rules.specs.Report.{reportNumber};
+ghost use Rattle.rules.specs.Table.{refusalNumber};
+
+fn ends(same: bool) {
+    if same {
+        io::write_all(STDOUT_FILENO, b"\n");
+    } else {
+        io::write_all(STDOUT_FILENO, b" WRONG\n");
+    }
+}
+
+// A number.
+pub fn case(name: &[u8], got: u64, want: u64) -> bool
+    ensures { λ b. ⌜ b ≡ eqb got want ⌝ }
+{
+    io::write_all(STDOUT_FILENO, name);
+    io::write_all(STDOUT_FILENO, b": ");
+    io::print_decimal(STDOUT_FILENO, got);
+    io::write_all(STDOUT_FILENO, b", the paper says ");
+    io::print_decimal(STDOUT_FILENO, want);
+    let same = got == want;
+    ends(same);
+    same
+}
+
+fn wide(x: u8) -> u64 {
+    x as u64
+}
+
+fn hex(s: &[u8]) {
+    let mut i = 0;
+    while i < s.len() {
+        io::write_all(STDOUT_FILENO, b" ");
+        io::print_hex(STDOUT_FILENO, wide(s[i]), 2);
+        i += 1;
+    }
+}
+
+// Whether two slices, of whatever lengths, have the same bytes.
+fn alike(got: &[u8], want: &[u8]) -> bool
+    ensures { λ b. ⌜ b ≡ sameBytes (now (got .entry)) (now (want .entry)) ⌝ }
+{
+    if got.len() != want.len() {
+        return false;
+    }
+    same_bytes(got, want)
+}
+
+// Bytes, on a line of their own above the paper's.
+pub fn bytes(name: &[u8], got: &[u8], want: &[u8]) -> bool
+    ensures { λ b. ⌜ b ≡ sameBytes (now (got .entry)) (now (want .entry)) ⌝ }
+{
+    io::write_all(STDOUT_FILENO, name);
+    io::write_all(STDOUT_FILENO, b"\n  came: ");
+    hex(got);
+    io::write_all(STDOUT_FILENO, b"\n  paper:");
+    hex(want);
+    let same = alike(got, want);
+    ends(same);
+    same
+}
+
+// Bytes that stay as they were.
+pub fn unchanged(name: &[u8], got: &[u8], want: &[u8]) -> bool
+    ensures { λ b. ⌜ b ≡ sameBytes (now (got .entry)) (now (want .entry)) ⌝ }
+{
+    io::write_all(STDOUT_FILENO, name);
+    let same = alike(got, want);
+    if same {
+        io::write_all(STDOUT_FILENO, b": unchanged\n");
+    } else {
+        io::write_all(STDOUT_FILENO, b": changed, WRONG\n");
+    }
+    same
+}
+
+// The lesser of two lengths.
+pub fn least(n: usize, most: usize) -> usize
+    ensures { λ r. ⌜ (r ≡ min n most) × (r ≤ most) ⌝ }
+{
+    if n < most { n } else { most }
+}
+
+// The bytes at the front, as many as the paper has.
+pub fn front(name: &[u8], got: &[u8], want: &[u8]) -> bool
+    ensures { λ b. ⌜ b ≡ sameBytes (take (length (now (want .entry))) (now (got .entry))) (now (want .entry)) ⌝ }
+{
+    let first = 0;
+    let end = least(want.len(), got.len());
+    bytes(name, &got[first..end], want)
+}
+
+// The bytes from a place on, which stay as they were.
+pub fn rest(name: &[u8], got: &[u8], want: &[u8], from: usize) -> bool
+    ensures { λ b. ⌜ b ≡ sameBytes (drop from (now (got .entry))) (drop from (now (want .entry))) ⌝ }
+{
+    let at = least(from, got.len());
+    let beside = least(from, want.len());
+    unchanged(name, &got[at..], &want[beside..])
+}
+
+// The paper's number of a report's verdict.
+pub fn number(verdict: ReportVerdict) -> u64
+    ensures { λ r. ⌜ r ≡ reportNumber verdict ⌝ }
+{
+    match verdict {
+        ReportVerdict::Accepted => 0,
+        ReportVerdict::Short => 20,
+        ReportVerdict::TooMany => 21,
+        ReportVerdict::Longer => 22,
+        ReportVerdict::Reserved => 23,
+        ReportVerdict::BadPages => 24,
+        ReportVerdict::FallingIds => 25,
+        ReportVerdict::SmallOutput => 26,
+    }
+}
+
+fn refusal_number(why: Refusal) -> u64
+    ensures { λ r. ⌜ r ≡ refusalNumber why ⌝ }
+{
+    match why {
+        Refusal::TableLength => 1,
+        Refusal::TableRecord => 2,
+        Refusal::TableIdentities => 3,
+        Refusal::ReplyShort => 4,
+        Refusal::RequestShort => 5,
+        Refusal::Inputs => 6,
+        Refusal::Interface => 7,
+    }
+}
+
+// The paper's number of a call's answer.
+pub fn answer_number(answer: Answer) -> u64
+    ensures { λ r. ⌜ r ≡ answerNumber answer ⌝ }
+{
+    match answer {
+        Answer::Served(_) => 0,
+        Answer::Refused(why) => refusal_number(why),
+    }
+}
+
+// The length of a served reply; 0 beside a refusal.
+pub fn answer_value(answer: Answer) -> u64
+    ensures { λ r. ⌜ r ≡ answerValue answer ⌝ }
+{
+    match answer {
+        Answer::Served(n) => n as u64,
+        Answer::Refused(_) => 0,
+    }
+}
+
+// A call's number, and its length.
+pub fn told(name: &[u8], answer: Answer, number: u64, value: u64) -> bool
+    ensures { λ b. ⌜ b ≡ eqb (answerNumber answer) number && eqb (answerValue answer) value ⌝ }
+{
+    let same = case(name, answer_number(answer), number);
+    let long = case(b"  its length", answer_value(answer), value);
+    same & long
+}

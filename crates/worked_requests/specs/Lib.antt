@@ -1,0 +1,2 @@
+-- What the program asks. No rule stands here.
+pub mod Asked
