@@ -1,17 +1,16 @@
 -- Each way out of an event, a register write and the firmware question. Assumes nothing.
-use mathlib.Core.Path.{_≡_, refl, sym, ap, _∙_}
-use mathlib.Core.Bool.{Bool, true, false, not}
+use mathlib.Core.Path.{_≡_, refl, sym, _∙_}
+use mathlib.Core.Bool.{Bool, true, false}
 use mathlib.Core.List.{List, []}
 use Prim.Native.Nat.{ℕ}
 use borrow.Author.Tests.{eq-eqb}
 use lib.Dec.{eqb}
-use Rattle.rules.specs.Bytes.{if_then_else_}
-use Rattle.rules.specs.Call.{Outcome, changed, writtenBy, registerWritten, happened, firmwareAsked, Gives, Says}
+use Rattle.rules.specs.Call.{changed, writtenBy, registerWritten, happened, firmwareAsked, Gives, Says}
 use Rattle.rules.specs.Change.{ruleOf, hits, writeHits, firmwareYes}
 use Rattle.rules.specs.Identity.{identityOf}
 use Rattle.rules.specs.Table.{records, find, tableNumber, judgementNumber}
 use Rattle.rules.specs.declared.Answer.{Answer}
-use Rattle.rules.specs.declared.Answer.the-variants.{Served, Refused}
+use Rattle.rules.specs.declared.Answer.the-variants.{Refused}
 use Rattle.rules.specs.declared.Event.{Event}
 use Rattle.rules.specs.declared.FirmwareAnswer.{FirmwareAnswer}
 use Rattle.rules.specs.declared.Found.{Found}

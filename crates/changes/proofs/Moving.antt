@@ -1,15 +1,12 @@
 -- One record: moved, or left as it is. Assumes nothing.
-use mathlib.Core.Path.{_≡_, refl, sym, ap, _∙_}
+use mathlib.Core.Path.{_≡_, refl, sym, _∙_}
 use mathlib.Core.Bool.{Bool, true, false, not, _&&_}
-use mathlib.Core.List.{List, [], _∷_}
 use Prim.Native.Nat.{ℕ}
 use borrow.Author.Tests.{eq-eqb, not-true, not-false}
 use lib.Dec.{eqb}
 use lib.ListN.{length}
-use Rattle.rules.specs.Bytes.{if_then_else_, num}
 use Rattle.rules.specs.Change.{live, moved, differing}
-use Rattle.rules.specs.Lock.{contains}
-use Rattle.rules.specs.Record.{Rec, state, flags}
+use Rattle.rules.specs.Record.{Rec, state}
 use Rattle.rules.specs.Request.{cleared}
 use Rattle.rules.specs.Table.{recordBytes}
 use Rattle.rules.proofs.Bools.{and-false}

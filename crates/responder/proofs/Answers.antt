@@ -1,15 +1,13 @@
 -- A law for each way out of a call. Assumes nothing.
 use mathlib.Core.Path.{_≡_, refl, sym, ap, _∙_}
-use mathlib.Core.Bool.{not, _&&_}
-use mathlib.Core.List.{List, []}
-use Prim.Native.Nat.{ℕ, _*_, _/_, _≤_, _<_}
+use mathlib.Core.List.{List}
+use Prim.Native.Nat.{ℕ, _/_, _≤_, _<_}
 use borrow.Author.Tests.{eq-eqb, ne-eqb, le-ltb, lt-ltb}
 use lib.Dec.{eqb, ltb}
 use lib.ListN.{length, set}
-use Rattle.rules.specs.Bytes.{if_then_else_}
-use Rattle.rules.specs.Call.{join, Outcome, refused, served, carriedOut, answered, Gives}
+use Rattle.rules.specs.Call.{join, refused, carriedOut, answered, Gives}
 use Rattle.rules.specs.Request.{Lent, kindOf, exactLength, errorMessage, effect, verdict}
-use Rattle.rules.specs.Table.{records, recordAt, recordBytes, tableNumber, judgementNumber, refusalNumber}
+use Rattle.rules.specs.Table.{records, recordAt, recordBytes, tableNumber, judgementNumber}
 use Rattle.rules.specs.declared.Answer.{Answer}
 use Rattle.rules.specs.declared.Answer.the-variants.{Served, Refused}
 use Rattle.rules.specs.declared.Judgement.{Judgement}

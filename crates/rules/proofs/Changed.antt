@@ -1,26 +1,26 @@
 -- What a change leaves of an accepted table: exactly the records that it is for move, and no other byte changes. Assumes nothing.
-use mathlib.Core.Path.{_≡_, refl, sym, ap, _∙_}
-use mathlib.Core.Bool.{Bool, true, false, not, _&&_}
+use mathlib.Core.Path.{_≡_, refl, sym, _∙_}
+use mathlib.Core.Bool.{Bool, true, false, not}
 use mathlib.Core.List.{List, [], _∷_, map}
-use Prim.Native.Nat.{ℕ, _*_, _/_, _≤_, _<_}
+use Prim.Native.Nat.{ℕ, _/_, _<_}
 use native.Mathlib.Omega.{arith}
 use borrow.Author.Tests.{eq-eqb, ltb-true, ltb-false}
 use lib.Dec.{eqb, ltb}
 use lib.ListN.{length, getD, set, List·getD-eq-default}
-use Rattle.rules.specs.Bytes.{if_then_else_, byte}
-use Rattle.rules.specs.Call.{join, Outcome, refused, changed, registerWritten, happened}
+use Rattle.rules.specs.Bytes.{byte}
+use Rattle.rules.specs.Call.{join, refused, changed, registerWritten, happened}
 use Rattle.rules.specs.Change.{ruleOf, hits, ruleHits, deviceWide, writeHits, live, moves, moved, differing}
 use Rattle.rules.specs.Identity.{identityOf, same}
-use Rattle.rules.specs.Record.{Rec, ERROR, recordOk}
+use Rattle.rules.specs.Record.{Rec, ERROR}
 use Rattle.rules.specs.Request.{cleared}
-use Rattle.rules.specs.Table.{records, recordAt, recordBytes, identity, names, find, tableNumber, lookupNumber}
+use Rattle.rules.specs.Table.{records, recordAt, recordBytes, identity, names, find, tableNumber}
 use Rattle.rules.specs.declared.Event.the-variants.{Multicast}
 use Rattle.rules.specs.declared.Found.the-variants.{At, Nothing}
 use Rattle.rules.specs.declared.Identity.{Identity}
 use Rattle.rules.specs.declared.Rule.{Rule}
 use Rattle.rules.proofs.Accepted.{tests, whole, differ}
 use Rattle.rules.proofs.Bools.{and-false}
-use Rattle.rules.proofs.Configured.{Configured, identity-same}
+use Rattle.rules.proofs.Configured.{Configured}
 use Rattle.rules.proofs.Identities.{same-like}
 use Rattle.rules.proofs.Joined.{sized-records, length-join, records-join}
 use Rattle.rules.proofs.Lookup.{find-at}
@@ -44,6 +44,10 @@ module _ (p : Rec → Bool) (t : List ℕ) where
   -- the count is the number of records that move
   pub count-after : changed p t .value ≡ tally (moves p) (records t)
   count-after = differing-all p (records t) (sized-records t)
+
+  -- as many records as before
+  pub count-stays : length (records after) ≡ length (records t)
+  count-stays = rw records-after (length-map p (records t))
 
   -- no configuration changes, in any record
   pub kept-after : (j k : ℕ) → Configured k → byte (recordAt after j) k ≡ byte (recordAt t j) k

@@ -5,7 +5,7 @@ use mathlib.Core.List.{List, [], _∷_, _++_}
 use Prim.Native.Nat.{ℕ, zero, suc, _+_, _≤_, _<_}
 use native.Mathlib.Omega.{arith}
 use lib.ListN.{length}
-use Rattle.rules.specs.Bytes.{byte, bytesOf, blank, zeros}
+use Rattle.rules.specs.Bytes.{byte, num, bytesOf, blank, zeros}
 use Rattle.rules.specs.Lock.{stored}
 use Rattle.rules.specs.Record.{Rec, RUN, state, held, flags, stream, session, offset, nonce}
 use Rattle.rules.specs.Request.{askedFlags, askedStream, askedOffset, locked, running, cleared}
@@ -69,6 +69,11 @@ module _ (r : Rec) (b : Bytes r) where
       bytes-append (1 ∷ 1 ∷ []) (flag ++ rest) (bytes-two 1 1 (omega arith) (omega arith)) (bytes-append flag rest (bytes-of 2 (stored (askedFlags q))) (bytes-two (byte q 18) (s .0) (f 18) h)) in
       rw locked-is (bytes-rewritten (lockHead q s) (bytesOf 8 (askedOffset q)) n r head (bytes-of 8 (askedOffset q)) g b)
 
+-- a number of one byte is the byte
+one-byte : (s t : List ℕ) (at : ℕ) → num s at 1 ≡ num t at 1 → byte s at ≡ byte t at
+unfolding num
+one-byte s t at e = omega (arith, e)
+
 -- zero past the state
 past-state : (s k : ℕ) → 6 ≤ 4 + k → byte (s ∷ blank 5) k ≡ 0
 past-state s zero h = absurd (omega arith)
@@ -107,9 +112,15 @@ module _ (r : Rec) (long : length r ≡ recordBytes) where
   pub nonce-running : zeros (running r) 40 71 ≡ true
   nonce-running = rw running-is (nonce-zeros running-fits r long (λ k. same-at 32 k 0) refl)
 
-  -- flags and offset stay
+  -- flags, stream, session and offset stay
   pub flags-running : flags (running r) ≡ flags r
   flags-running = rw running-is (state-stays running-fits r long 6 2 (omega arith) (omega arith))
+
+  pub stream-running : stream (running r) ≡ stream r
+  stream-running = one-byte (running r) r 8 (rw running-is (state-stays running-fits r long 8 1 (omega arith) (omega arith)))
+
+  pub session-running : session (running r) ≡ session r
+  session-running = one-byte (running r) r 9 (rw running-is (state-stays running-fits r long 9 1 (omega arith) (omega arith)))
 
   pub offset-running : offset (running r) ≡ offset r
   offset-running = rw running-is (offset-stays running-fits r long refl)

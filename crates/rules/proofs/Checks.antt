@@ -1,7 +1,7 @@
 -- The checks of a request: a law for each way out, and what a request that is to be served tells. Assumes nothing.
 use mathlib.Core.Path.{_≡_, refl, sym, ap, _∙_}
 use mathlib.Core.Bool.{Bool, true, false, not}
-use mathlib.Core.List.{List, []}
+use mathlib.Core.List.{List}
 use Prim.Native.Nat.{ℕ, suc, _/_, _<_}
 use native.Mathlib.Omega.{arith}
 use borrow.Author.Tests.{eq-eqb, ne-eqb, eqb-true, eqb-false}
@@ -48,8 +48,9 @@ module _ (q : List ℕ) (rs : List Rec) where
 
 -- ---- a request that is to be served
 
--- its length is its type's, which is listed, and its interface is record k's
+-- its version is 10h, its length is its type's, which is listed, and its interface is record k's
 pub record ToServe (q : List ℕ) (rs : List Rec) (k : ℕ) : Type 0 where
+  pub version : byte q 0 ≡ 0x10
   pub listed : exactLength (kindOf q) ≡ 0 → ⊥
   pub exact : length q ≡ exactLength (kindOf q)
   pub found : find (identityAt q 4) rs ≡ At k
@@ -57,20 +58,20 @@ pub record ToServe (q : List ℕ) (rs : List Rec) (k : ℕ) : Type 0 where
 to-serve : (k : ℕ) (q : List ℕ) (rs : List Rec) → verdict q rs ≡ Serve k → ToServe q rs k
 unfolding verdict
 to-serve k q rs =
-    by (eqb (byte q 0) 0x10) (eqb (exactLength (kindOf q)) 0) refl (eqb (length q) (exactLength (kindOf q))) refl (find (identityAt q 4) rs) refl
+    by (eqb (byte q 0) 0x10) refl (eqb (exactLength (kindOf q)) 0) refl (eqb (length q) (exactLength (kindOf q))) refl (find (identityAt q 4) rs) refl
   where
     -- what tells the verdicts apart
     place : Verdict → ℕ
     place (Error code datum) = 0
     place (Serve j) = suc j
 
-    by : (a b : Bool) → eqb (exactLength (kindOf q)) 0 ≡ b → (c : Bool) → eqb (length q) (exactLength (kindOf q)) ≡ c → (f : Found) → find (identityAt q 4) rs ≡ f
+    by : (a : Bool) → eqb (byte q 0) 0x10 ≡ a → (b : Bool) → eqb (exactLength (kindOf q)) 0 ≡ b → (c : Bool) → eqb (length q) (exactLength (kindOf q)) ≡ c → (f : Found) → find (identityAt q 4) rs ≡ f
         → (if not a then Error 0x41 0 else if b then Error 0x07 (kindOf q) else if not c then Error 0x01 0 else lookedUp f) ≡ Serve k → ToServe q rs k
-    by false b p c r f s e = absurd (omega (arith, ap place e))
-    by true true p c r f s e = absurd (omega (arith, ap place e))
-    by true false p false r f s e = absurd (omega (arith, ap place e))
-    by true false p true r Nothing s e = absurd (omega (arith, ap place e))
-    by true false p true r (At j) s e = let w : j ≡ k = omega (arith, ap place e) in record { listed = eqb-false _ _ p; exact = eqb-true _ _ r; found = s ∙ ap At w }
+    by false v b p c r f s e = absurd (omega (arith, ap place e))
+    by true v true p c r f s e = absurd (omega (arith, ap place e))
+    by true v false p false r f s e = absurd (omega (arith, ap place e))
+    by true v false p true r Nothing s e = absurd (omega (arith, ap place e))
+    by true v false p true r (At j) s e = let w : j ≡ k = omega (arith, ap place e) in record { version = eqb-true _ _ v; listed = eqb-false _ _ p; exact = eqb-true _ _ r; found = s ∙ ap At w }
 
 module _ (k : ℕ) (v : Verdict) (q t : List ℕ) (told : v ≡ verdict q (records t)) (serve : v ≡ Serve k) where
   pub serves : ToServe q (records t) k

@@ -27,7 +27,7 @@ pub data Becomes (l : Lent) (r : Rec) : Effect → Type 0 where
       → Becomes l r (does (message 0x03 (l .request) (l .nonce)) (locked (l .request) (l .nonce) (l .session) r))
   runs : kindOf (l .request) ≡ 0x86 → state r ≡ 1 → sameBytes (part (l .request) 16 32) (nonce r) ≡ true
       → Becomes l r (does (message 0x06 (l .request) []) (running r))
-  clears : Becomes l r (does (message 0x07 (l .request) []) (cleared 0 r))
+  clears : kindOf (l .request) ≡ 0x87 → Becomes l r (does (message 0x07 (l .request) []) (cleared 0 r))
 
 -- the states in which LOCK and START are legal
 legal-lock : (s : ℕ) → legalIn 0x83 s ≡ true → s ≡ 0
@@ -89,15 +89,15 @@ module _ (l : Lent) (r : Rec) where
   -- the record stays, is locked, runs or is cleared
   pub effect-becomes : Becomes l r (effect l r)
   unfolding effect
-  effect-becomes = go (legalIn kind (state r)) refl (eqb kind 0x83) refl (eqb kind 0x86) refl (eqb kind 0x87)
+  effect-becomes = go (legalIn kind (state r)) refl (eqb kind 0x83) refl (eqb kind 0x86) refl (eqb kind 0x87) refl
     where
-      go : (a : Bool) → legalIn kind (state r) ≡ a → (b : Bool) → eqb kind 0x83 ≡ b → (c : Bool) → eqb kind 0x86 ≡ c → (d : Bool)
+      go : (a : Bool) → legalIn kind (state r) ≡ a → (b : Bool) → eqb kind 0x83 ≡ b → (c : Bool) → eqb kind 0x86 ≡ c → (d : Bool) → eqb kind 0x87 ≡ d
           → Becomes l r (if not a then fails 0x04 q r else if b then lockInterface l r else if c then startInterface q r else if d then stopInterface q r else gets q r)
-      go false p b x c y d = same
-      go true p true x c y d = let k = eqb-true kind 0x83 x in lock-becomes k (legal-lock (state r) (rw k at p))
-      go true p false x true y d = let k = eqb-true kind 0x86 y in start-becomes k (legal-start (state r) (rw k at p))
-      go true p false x false y true = clears
-      go true p false x false y false = gets-becomes
+      go false p b x c y d w = same
+      go true p true x c y d w = let k = eqb-true kind 0x83 x in lock-becomes k (legal-lock (state r) (rw k at p))
+      go true p false x true y d w = let k = eqb-true kind 0x86 y in start-becomes k (legal-start (state r) (rw k at p))
+      go true p false x false y true w = clears (eqb-true kind 0x87 w)
+      go true p false x false y false w = gets-becomes
 
 -- ---- so of each of them
 
@@ -107,13 +107,13 @@ module _ (l : Lent) (r : Rec) (long : length r ≡ recordBytes) (n-long : length
   becomes-length e same = long
   becomes-length e (locks c z f o s t) = length-locked r long (l .request) (l .nonce) (l .session) n-long
   becomes-length e (runs c z n) = length-running r long
-  becomes-length e clears = length-cleared r long 0
+  becomes-length e (clears c) = length-cleared r long 0
 
   becomes-kept : (e : Effect) → Becomes l r e → (k : ℕ) → Configured k → byte (e .rec) k ≡ byte r k
   becomes-kept e same k h = refl
   becomes-kept e (locks c z f o s t) k h = kept-locked r long (l .request) (l .nonce) (l .session) n-long k h
   becomes-kept e (runs c z n) k h = kept-running r long k h
-  becomes-kept e clears k h = kept-cleared r long 0 k h
+  becomes-kept e (clears c) k h = kept-cleared r long 0 k h
 
 -- the record's length stays
 pub length-effect : (l : Lent) (r : Rec) → length r ≡ recordBytes → length (l .nonce) ≡ 32 → length (effect l r .rec) ≡ recordBytes
@@ -135,7 +135,7 @@ bytes-effect l r b c d h = by (effect l r) (effect-becomes l r)
     by e same = b
     by e (locks k z f o s t) = bytes-locked r b (l .request) (l .nonce) (l .session) c d h
     by e (runs k z n) = bytes-running r b
-    by e clears = bytes-cleared r b 0 (omega arith)
+    by e (clears k) = bytes-cleared r b 0 (omega arith)
 
 -- ---- errors
 
@@ -145,7 +145,7 @@ unfolding message header
 becomes-error l r e same h = refl
 becomes-error l r e (locks c z f o s t) h = absurd (omega arith)
 becomes-error l r e (runs c z n) h = absurd (omega arith)
-becomes-error l r e clears h = absurd (omega arith)
+becomes-error l r e (clears c) h = absurd (omega arith)
 
 pub error-keeps : (l : Lent) (r : Rec) → byte (effect l r .reply) 1 ≡ 0x7f → effect l r .rec ≡ r
 error-keeps l r h = becomes-error l r (effect l r) (effect-becomes l r) h

@@ -86,4 +86,4 @@ effect-keeps l r long b n-long ok = by (effect l r) (effect-becomes l r)
     by e Becomes.same = ok
     by e (Becomes.locks k z f o s t) = locked-keeps r long ok (l .request) (l .nonce) (l .session) n-long b o
     by e (Becomes.runs k z n) = running-keeps r long ok z
-    by e Becomes.clears = cleared-keeps r long ok 0 refl refl refl
+    by e (Becomes.clears k) = cleared-keeps r long ok 0 refl refl refl

@@ -1,12 +1,10 @@
 -- Refusals 1 to 3, which every call gives alike. Assumes nothing.
 use mathlib.Core.Path.{_≡_, refl, sym, ap, _∙_}
-use mathlib.Core.Bool.{not}
 use mathlib.Core.List.{List}
 use Prim.Native.Nat.{ℕ}
 use native.Mathlib.Omega.{arith}
 use borrow.Author.Tests.{eq-eqb, ne-eqb}
 use lib.Dec.{eqb}
-use Rattle.rules.specs.Bytes.{if_then_else_}
 use Rattle.rules.specs.Call.{Outcome, refused, onAccepted, Gives}
 use Rattle.rules.specs.Table.{tableNumber, judgementNumber, refusalNumber}
 use Rattle.rules.specs.declared.Answer.the-variants.{Refused}

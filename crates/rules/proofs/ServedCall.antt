@@ -6,7 +6,7 @@ use Prim.Native.Nat.{ℕ, _*_, _/_, _<_}
 use native.Mathlib.Omega.{arith}
 use borrow.Author.Tests.{eqb-true, eqb-false}
 use lib.Dec.{eqb, ltb}
-use lib.ListN.{length, set}
+use lib.ListN.{length, set, length-set}
 use lib.Seq.{set-getD}
 use Rattle.rules.specs.Bytes.{if_then_else_, byte, over}
 use Rattle.rules.specs.Identity.{identityAt}
@@ -22,7 +22,7 @@ use Rattle.rules.proofs.Bools.{and-right}
 use Rattle.rules.proofs.Checks.{serves}
 use Rattle.rules.proofs.Configured.{Configured, identity-same}
 use Rattle.rules.proofs.Effects.{Becomes, effect-becomes, length-effect, kept-bytes, same-identity}
-use Rattle.rules.proofs.Joined.{join-records}
+use Rattle.rules.proofs.Joined.{join-records, records-set}
 use Rattle.rules.proofs.KeepsRules.{effect-keeps}
 use Rattle.rules.proofs.Lookup.{find-at}
 use Rattle.rules.proofs.Numbers.{Bytes}
@@ -32,18 +32,19 @@ use Rattle.rules.proofs.StaysAccepted.{set-accepted, other-stays, named
 -- ---- what a request gets is one of three
 
 -- a request that is carried out on record k
-record OnRecord (l : Lent) (t : List ℕ) (k : ℕ) : Type 0 where
-  accepted : tableNumber t ≡ 0
-  found : find (identityAt (l .request) 4) (records t) ≡ At k
-  nonce-long : length (l .nonce) ≡ 32
+pub record OnRecord (l : Lent) (t : List ℕ) (k : ℕ) : Type 0 where
+  pub accepted : tableNumber t ≡ 0
+  pub found : find (identityAt (l .request) 4) (records t) ≡ At k
+  pub nonce-long : length (l .nonce) ≡ 32
+  pub told : verdict (l .request) (records t) ≡ Serve k
 
 -- refused with a number, an error, or carried out
-data Answers (l : Lent) (t : List ℕ) : Outcome → Type 0 where
+pub data Answers (l : Lent) (t : List ℕ) : Outcome → Type 0 where
   refuses : (n : ℕ) → (n ≡ 0 → ⊥) → Answers l t (refused n (l .reply) t)
   errs : (m : List ℕ) → Answers l t (served m l t)
   carries : (k : ℕ) → OnRecord l t k → Answers l t (carriedOut (Serve k) l t)
 
-answered-is : (l : Lent) (t : List ℕ) → Answers l t (answered l t)
+pub answered-is : (l : Lent) (t : List ℕ) → Answers l t (answered l t)
 unfolding answered
 answered-is l t =
     go (eqb (tableNumber t) 0) refl (ltb (length (l .reply)) leastReply) (ltb (length (l .request)) leastRequest) (eqb (length (l .streams)) 32 && eqb (length (l .nonce)) 32) refl
@@ -61,6 +62,7 @@ answered-is l t =
         carries k (record {
           accepted = eqb-true (tableNumber t) 0 p;
           found = serves k (verdict (l .request) (records t)) (l .request) t refl e .found;
+          told = e;
           nonce-long = eqb-true (length (l .nonce)) 32 (and-right (eqb (length (l .streams)) 32) (eqb (length (l .nonce)) 32) q);
         })
 
@@ -74,7 +76,7 @@ module _ (l : Lent) (t : List ℕ) (k : ℕ) (on : OnRecord l t k) where
   after = join (set (records t) k (effect l r .rec))
 
   -- its place, and the lengths
-  in-records : k < length (records t)
+  pub in-records : k < length (records t)
   in-records = find-at (identityAt (l .request) 4) k (records t) (on .found) .within
 
   in-table : k < length t / recordBytes
@@ -83,7 +85,7 @@ module _ (l : Lent) (t : List ℕ) (k : ℕ) (on : OnRecord l t k) where
   steps : length t ≡ length t / recordBytes * recordBytes
   steps = rw (length-records t) at (whole t (on .accepted))
 
-  long : length r ≡ recordBytes
+  pub long : length r ≡ recordBytes
   long = length-record t k in-table
 
   long-after : length (effect l r .rec) ≡ recordBytes
@@ -95,10 +97,10 @@ module _ (l : Lent) (t : List ℕ) (k : ℕ) (on : OnRecord l t k) where
       let ok = effect-keeps l r long b (on .nonce-long) (keeps-rules t (on .accepted) k in-records) in
       set-accepted t k (effect l r .rec) (on .accepted) in-records long-after ok (same-identity l r long (on .nonce-long))
 
-  other-after : (j : ℕ) → (j ≡ k → ⊥) → recordAt after j ≡ recordAt t j
+  pub other-after : (j : ℕ) → (j ≡ k → ⊥) → recordAt after j ≡ recordAt t j
   other-after j n = other-stays t j k (effect l r .rec) steps long-after in-table n
 
-  named-after : recordAt after k ≡ effect l r .rec
+  pub named-after : recordAt after k ≡ effect l r .rec
   named-after = named-is t k (effect l r .rec) steps long-after in-table
 
   kept-after : (j i : ℕ) → Configured i → byte (recordAt after j) i ≡ byte (recordAt t j) i
@@ -107,6 +109,9 @@ module _ (l : Lent) (t : List ℕ) (k : ℕ) (on : OnRecord l t k) where
       go : (b : Bool) → eqb j k ≡ b → byte (recordAt after j) i ≡ byte (recordAt t j) i
       go true e = rw (eqb-true j k e, named-after) (kept-bytes l r long (on .nonce-long) i c)
       go false e = ap (λ (x : Rec). byte x i) (other-after j (eqb-false j k e))
+
+  count-after : length (records after) ≡ length (records t)
+  count-after = rw (records-set t k (effect l r .rec) steps long-after in-table) (length-set (records t) k (effect l r .rec))
 
   -- a record put where it stands
   same-after : effect l r .rec ≡ r → after ≡ t
@@ -118,7 +123,7 @@ unfolding over message header
 error-replied l r s e Becomes.same h = refl
 error-replied l r s e (Becomes.locks k z f o p q) h = absurd (omega arith)
 error-replied l r s e (Becomes.runs k z n) h = absurd (omega arith)
-error-replied l r s e Becomes.clears h = absurd (omega arith)
+error-replied l r s e (Becomes.clears k) h = absurd (omega arith)
 
 -- ---- so of every request
 
@@ -149,6 +154,15 @@ module _ (l : Lent) (t : List ℕ) where
       by o (refuses n z) = refl
       by o (errs m) = refl
       by o (carries k on) = other-after l t k on j (λ e. n (on .found ∙ ap At (sym e)))
+
+  -- no record comes or goes
+  pub length-stays : length (records (answered l t .table)) ≡ length (records t)
+  length-stays = by (answered l t) (answered-is l t)
+    where
+      by : (o : Outcome) → Answers l t o → length (records (o .table)) ≡ length (records t)
+      by o (refuses n z) = refl
+      by o (errs m) = refl
+      by o (carries k on) = count-after l t k on
 
   -- no configuration changes, in any record: identity, ranges, information
   pub configuration-stays : (j k : ℕ) → Configured k → byte (recordAt (answered l t .table) j) k ≡ byte (recordAt t j) k

@@ -5,12 +5,13 @@ use mathlib.Core.List.{List, []}
 use Prim.Native.Nat.{ℕ}
 use borrow.Author.Tests.{eqb-true}
 use lib.Dec.{eqb}
+use lib.ListN.{length}
 use Rattle.rules.specs.Bytes.{if_then_else_, byte}
 use Rattle.rules.specs.Call.{Outcome, refused, onAccepted, changed, writtenBy, registerWritten, happened, firmwareAsked, Call, Request, RegisterWrite, DeviceWide, FirmwareQuestion, step}
 use Rattle.rules.specs.Change.{ruleOf, hits, writeHits}
 use Rattle.rules.specs.Identity.{identityOf}
 use Rattle.rules.specs.Table.{records, recordAt, identity, find, lookupNumber, tableNumber}
-use Rattle.rules.proofs.Changed.{kept-after, accepted-after}
+use Rattle.rules.proofs.Changed.{kept-after, count-stays, accepted-after}
 use Rattle.rules.proofs.Configured.{Configured, identity-same}
 use Rattle.rules.proofs.Numbers.{Bytes}
 use Rattle.rules.proofs.ServedCall as request
@@ -65,3 +66,12 @@ configuration-stays FirmwareQuestion t j k h =
 -- so identities never change
 pub identity-stays : (c : Call) (t : List ℕ) (j : ℕ) → identity (recordAt (step c t .table) j) ≡ identity (recordAt t j)
 identity-stays c t j = identity-same (recordAt (step c t .table) j) (recordAt t j) (configuration-stays c t j)
+
+-- and no record comes or goes
+pub length-stays : (c : Call) (t : List ℕ) → length (records (step c t .table)) ≡ length (records t)
+unfolding happened firmwareAsked
+length-stays (Request l) t = request.length-stays l t
+length-stays (RegisterWrite id class) t =
+    after-write (λ (s : List ℕ). length (records s) ≡ length (records t)) t refl id class (λ a. count-stays (writeHits (ruleOf class) (identityOf id)) t)
+length-stays (DeviceWide e) t = if-accepted (λ (s : List ℕ). length (records s) ≡ length (records t)) t refl (changed (hits e) t) (λ a. count-stays (hits e) t)
+length-stays FirmwareQuestion t = if-accepted (λ (s : List ℕ). length (records s) ≡ length (records t)) t refl _ (λ a. refl)

@@ -1,5 +1,5 @@
 -- Document 01, "What a call gets": numbers 0 to 7, answer, reply and table, of every call, over what it is given, byte for byte.
-use mathlib.Core.Bool.{Bool, true, false, not, _&&_}
+use mathlib.Core.Bool.{Bool, not, _&&_}
 use mathlib.Core.Path.{_≡_}
 use mathlib.Core.List.{List, [], _∷_, _++_, map}
 use Prim.Native.Nat.{ℕ}
@@ -9,7 +9,7 @@ use Rattle.rules.specs.Bytes.{if_then_else_, over}
 use Rattle.rules.specs.Change.{ruleOf, hits, writeHits, moved, differing, firmwareYes}
 use Rattle.rules.specs.Identity.{identityOf}
 use Rattle.rules.specs.Record.{Rec}
-use Rattle.rules.specs.Request.{Lent, Effect, effect, errorMessage, verdict}
+use Rattle.rules.specs.Request.{Lent, effect, errorMessage, verdict}
 use Rattle.rules.specs.Table.{records, tableNumber, refusalNumber, find, lookupNumber}
 use Rattle.rules.specs.declared.Answer.{Answer}
 use Rattle.rules.specs.declared.Answer.the-variants.{Served, Refused}

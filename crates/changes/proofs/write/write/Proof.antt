@@ -1,5 +1,4 @@
 -- `write` meets its contract. Assumes nothing.
-use mathlib.Core.Path.{sym, _∙_}
 use borrow.Author.Needs.{needs}
 use Rattle.changes.proofs.Happening.{interface-unknown, found-at, interface-known}
 use Rattle.changes.proofs.write.write.Statement.{statement}

@@ -1,7 +1,5 @@
 -- `write_by` meets its contract. Assumes nothing.
-use mathlib.Core.Path.{refl, ap}
 use borrow.Author.Needs.{needs}
-use Rattle.rules.specs.Change.{deviceWide}
 use Rattle.changes.proofs.Writing.{in-table, for-all, for-one}
 use Rattle.changes.proofs.write.write_by.Statement.{statement}
 use Rattle.changes.proofs.write.write_by.Tie as tie

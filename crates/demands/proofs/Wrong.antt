@@ -1,0 +1,158 @@
+-- Each wrong responder is refused by a demand. Assumes nothing.
+use mathlib.Core.Path.{_≡_, refl, sym, ap, _∙_}
+use mathlib.Core.Bool.{true}
+use mathlib.Core.List.{[], _∷_, _++_}
+use Prim.Native.Nat.{ℕ}
+use native.Mathlib.Omega.{arith}
+use lib.ListN.{length, length-append}
+use Rattle.rules.specs.Bytes.{byte, num, bytesOf, blank, part, over, every, zeros}
+use Rattle.rules.specs.Call.{join, Outcome, answered, happened, Call, Request, FirmwareQuestion}
+use Rattle.rules.specs.Change.{hits, live, moved, differing}
+use Rattle.rules.specs.Identity.{same}
+use Rattle.rules.specs.Range.{neverFall}
+use Rattle.rules.specs.Record.{offsetOk, lockOk, rangesOk, informationOk, recordOk}
+use Rattle.rules.specs.Request.{kindOf, header, message, exactLength, legalIn, verdict, locked, lockInterface, running, effect}
+use Rattle.rules.specs.Table.{cut, records, all, distinct, lengthOk, tableNumber, findFrom, find}
+use Rattle.rules.specs.declared.Event.the-variants.{Multicast}
+use Rattle.rules.specs.declared.Found.{Found}
+use Rattle.rules.specs.declared.Found.the-variants.{At, Nothing}
+use Rattle.rules.specs.declared.Identity.{Identity}
+use Rattle.rules.proofs.Bools.{clash}
+use Rattle.demands.specs.Answers.{lowest, AnswersFixed}
+use Rattle.demands.specs.Exactly.{Reaches, RequestsExactly, EventsExactly}
+use Rattle.demands.specs.Histories.{Terms, termsOf, AcceptedLock, ServedStart, Ends, RanSince, InRun, RunExactlyWhen, unlocked}
+use Rattle.demands.specs.Machine.{Seen, requestOf, run, trace, seen, none-left, _and_}
+use Rattle.demands.specs.Swaps.{DifferentInterfacesSwap}
+use Rattle.demands.specs.Wrong.{card, interface, version, lock, start, onlyRefuses, oneReply, leavesTable, runsAtLock, inventsCount}
+use Rattle.demands.proofs.Swaps.{anywhere}
+
+-- the card is accepted, with its interface unlocked and in record 0
+card-accepted : tableNumber card ≡ 0
+unfolding tableNumber lengthOk records cut all distinct recordOk lockOk rangesOk informationOk num zeros every neverFall
+card-accepted = refl
+
+card-unlocked : all unlocked (records card) ≡ true
+unfolding records cut all
+card-unlocked = refl
+
+card-found : find interface (records card) ≡ At 0
+unfolding records cut findFrom same num
+card-found = refl
+
+-- two numbers that differ
+differ : {A : Type 0} (m n : ℕ) → m ≡ n → (m ≡ n → ⊥) → A
+differ m n e f = absurd (f e)
+
+-- ---- one that only refuses breaks demand 1: the firmware question has no number 4
+
+pub only-refuses : AnswersFixed onlyRefuses → ⊥
+unfolding lowest tableNumber lengthOk records cut all distinct recordOk lockOk rangesOk informationOk num zeros every neverFall
+only-refuses d = differ 4 0 (d FirmwareQuestion card .number-is) (λ e. omega arith)
+
+-- ---- one fixed reply breaks demand 2: a version request gets 01h
+
+version-reaches : Reaches version card 0 0x81 16
+unfolding records cut findFrom same num
+version-reaches = record {
+  accepted = card-accepted;
+  room = omega arith;
+  map-length = refl;
+  nonce-length = refl;
+  version-is = refl;
+  kind-is = refl;
+  length-is = refl;
+  found = refl;
+}
+
+pub one-reply : RequestsExactly oneReply → ⊥
+unfolding over message header
+one-reply d = differ 7 1 (ap (λ (o : Outcome). byte (o .reply) 1) (d .version version card 0 version-reaches)) (λ e. omega arith)
+
+-- ---- an invented count breaks demand 2: nobody moves, and it says 1
+
+pub invents-count : EventsExactly inventsCount → ⊥
+unfolding happened records cut differing moved live hits join tableNumber lengthOk all distinct recordOk lockOk rangesOk informationOk num zeros every neverFall
+invents-count d = differ 1 0 (d .event-counts Multicast card card-accepted) (λ e. omega arith)
+
+-- ---- one that enters RUN at lock breaks demand 3: no start was served
+
+runs-early : InRun interface (run runsAtLock (Request lock ∷ []) card)
+unfolding run answered verdict exactLength effect legalIn lockInterface offsetOk locked running over part bytesOf message header tableNumber lengthOk records cut join all distinct recordOk lockOk rangesOk informationOk num zeros every neverFall findFrom same
+runs-early = record { place = 0; found = refl; running = refl }
+
+-- a history of one call has no lock and later start
+too-short : {i : Identity} (e : Seen) → RanSince i (e ∷ []) → ⊥
+too-short e s =
+    let n = ap length (s .whole) in
+    let m = length-append (s .before) (s .lock ∷ (s .middle ++ (s .start ∷ s .after))) in
+    let k = length-append (s .middle) (s .start ∷ s .after) in
+    omega (arith, n, m, k)
+
+pub runs-at-lock : RunExactlyWhen runsAtLock → ⊥
+unfolding trace
+runs-at-lock d = too-short (seen runsAtLock (Request lock) card) (d interface (Request lock ∷ []) card card-accepted card-unlocked .0 runs-early)
+
+-- ---- one that leaves the table alone breaks demand 3: lock and start were served, and nothing runs
+
+locked-seen : AcceptedLock interface (blank 32) (termsOf lock) (seen leavesTable (Request lock) card)
+unfolding answered verdict exactLength effect legalIn lockInterface offsetOk over part bytesOf message header tableNumber lengthOk records cut all distinct recordOk lockOk rangesOk informationOk num zeros every neverFall findFrom same
+locked-seen = record {
+  lent = lock;
+  call-is = refl;
+  asks = record { version-is = refl; kind-is = refl; length-is = refl; who-is = refl };
+  served = refl;
+  reply-is = refl;
+  terms-are = refl;
+}
+
+started-seen : ServedStart interface (blank 32) (seen leavesTable (Request start) card)
+unfolding answered verdict exactLength effect legalIn tableNumber lengthOk records cut all distinct recordOk lockOk rangesOk informationOk num zeros every neverFall findFrom same part
+started-seen = record {
+  lent = start;
+  call-is = refl;
+  asks = record { version-is = refl; kind-is = refl; length-is = refl; who-is = refl };
+  served = refl;
+  carries = refl;
+}
+
+-- a start is no stop and no change
+start-lasts : (on : Terms) → Ends interface on (seen leavesTable (Request start) card) → ⊥
+start-lasts on (Ends.stopped l e a z q) = differ 0x86 0x87 (ap (λ (c : Call). kindOf (requestOf c)) e ∙ a .kind-is) (λ x. omega arith)
+start-lasts on (Ends.changed z s) = clash (sym s)
+
+ran : RanSince interface (trace leavesTable (Request lock ∷ (Request start ∷ [])) card)
+unfolding trace
+ran = record {
+  before = [];
+  lock = seen leavesTable (Request lock) card;
+  middle = [];
+  start = seen leavesTable (Request start) card;
+  after = [];
+  nonce = blank 32;
+  on = termsOf lock;
+  whole = refl;
+  locked = locked-seen;
+  started = started-seen;
+  lasting = start-lasts (termsOf lock) and none-left;
+}
+
+-- the card as it was: its one interface does not run
+place-of : Found → ℕ
+place-of (At k) = k
+place-of Nothing = 0
+
+not-running : InRun interface card → ⊥
+unfolding records cut findFrom same num place-of
+not-running x =
+    let k : x .place ≡ 0 = ap place-of (sym (x .found) ∙ card-found) in
+    differ 0 2 (rw k at (x .running)) (λ e. omega arith)
+
+pub leaves-table : RunExactlyWhen leavesTable → ⊥
+unfolding run
+leaves-table d = not-running (d interface (Request lock ∷ (Request start ∷ [])) card card-accepted card-unlocked .1 ran)
+
+-- ---- the swap alone refuses none of them: even one that only refuses has it. So demand 3 is stated beside demands 1 and 2
+
+pub constant-swaps : DifferentInterfacesSwap onlyRefuses
+constant-swaps before c d after t c-sends d-sends apart =
+    anywhere onlyRefuses c d after (λ u. record { first-same = refl; second-same = refl; table-same = refl }) before t

@@ -1,0 +1,7 @@
+-- What our user demands, a file for each demand, stated of any machine `next`: what a call gives on a table.
+pub mod Machine
+pub mod Answers
+pub mod Exactly
+pub mod Histories
+pub mod Swaps
+pub mod Wrong
