@@ -40,11 +40,12 @@ def contracts():
     entries = {"respond", "register_write", "stream_down", "session_end", "multicast", "happen", "firmware_question", "read_report", "write_report"}
     for path in sorted(crates.glob("*/src/**/*.rt")):
         text = path.read_text(encoding="utf8")
-        for found in re.finditer(r"^ *pub fn (\w+)\(", text, re.M):
+        for found in re.finditer(r"^ *pub (?:extern \"C\" )?fn (\w+)\(", text, re.M):
             head = re.match(r".*?(?: \{|^ *\{)$", text[found.start():], re.M | re.S).group(0)
             if "ensures {" not in head:
                 yield "%s: %s has no promise" % (path.relative_to(root), found.group(1))
-            if found.group(1) in entries and "requires {" in head:
+            entry = found.group(1) in entries or found.group(1).startswith("tdisp_")
+            if entry and "requires {" in head:
                 yield "%s: the entry %s asks something of its caller" % (path.relative_to(root), found.group(1))
 
 

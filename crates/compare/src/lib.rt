@@ -3,8 +3,6 @@ pub mod record;
 
 use libc::STDOUT_FILENO;
 use rules::Answer;
-use rules::Refusal;
-use rules::ReportVerdict;
 use wire::same::same_bytes;
 ghost use mathlib.Core.Path.{_≡_};
 ghost use mathlib.Core.Bool.{_&&_};
@@ -13,8 +11,6 @@ ghost use lib.Dec.{eqb};
 ghost use lib.ListN.{length, take, drop};
 ghost use Rattle.rules.specs.Bytes.{sameBytes};
 ghost use Rattle.rules.specs.Call.{answerNumber, answerValue};
-ghost use Rattle.rules.specs.Report.{reportNumber};
-ghost use Rattle.rules.specs.Table.{refusalNumber};
 
 fn ends(same: bool) {
     if same {
@@ -114,61 +110,11 @@ pub fn rest(name: &[u8], got: &[u8], want: &[u8], from: usize) -> bool
     unchanged(name, &got[at..], &want[beside..])
 }
 
-// The paper's number of a report's verdict.
-pub fn number(verdict: ReportVerdict) -> u64
-    ensures { λ r. ⌜ r ≡ reportNumber verdict ⌝ }
-{
-    match verdict {
-        ReportVerdict::Accepted => 0,
-        ReportVerdict::Short => 20,
-        ReportVerdict::TooMany => 21,
-        ReportVerdict::Longer => 22,
-        ReportVerdict::Reserved => 23,
-        ReportVerdict::BadPages => 24,
-        ReportVerdict::FallingIds => 25,
-        ReportVerdict::SmallOutput => 26,
-    }
-}
-
-fn refusal_number(why: Refusal) -> u64
-    ensures { λ r. ⌜ r ≡ refusalNumber why ⌝ }
-{
-    match why {
-        Refusal::TableLength => 1,
-        Refusal::TableRecord => 2,
-        Refusal::TableIdentities => 3,
-        Refusal::ReplyShort => 4,
-        Refusal::RequestShort => 5,
-        Refusal::Inputs => 6,
-        Refusal::Interface => 7,
-    }
-}
-
-// The paper's number of a call's answer.
-pub fn answer_number(answer: Answer) -> u64
-    ensures { λ r. ⌜ r ≡ answerNumber answer ⌝ }
-{
-    match answer {
-        Answer::Served(_) => 0,
-        Answer::Refused(why) => refusal_number(why),
-    }
-}
-
-// The length of a served reply; 0 beside a refusal.
-pub fn answer_value(answer: Answer) -> u64
-    ensures { λ r. ⌜ r ≡ answerValue answer ⌝ }
-{
-    match answer {
-        Answer::Served(n) => n as u64,
-        Answer::Refused(_) => 0,
-    }
-}
-
 // A call's number, and its length.
 pub fn told(name: &[u8], answer: Answer, number: u64, value: u64) -> bool
     ensures { λ b. ⌜ b ≡ eqb (answerNumber answer) number && eqb (answerValue answer) value ⌝ }
 {
-    let same = case(name, answer_number(answer), number);
-    let long = case(b"  its length", answer_value(answer), value);
+    let same = case(name, answer.number() as u64, number);
+    let long = case(b"  its length", answer.value() as u64, value);
     same & long
 }

@@ -11,4 +11,5 @@ pub mod Histories
 pub mod Places
 pub mod Named
 pub mod Swaps
+pub mod Values
 pub mod Wrong

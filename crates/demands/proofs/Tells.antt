@@ -39,12 +39,12 @@ verdict-serves q rs k kind long v e w n h f = rw (v, e, w, ne-eqb long 0 n, h, e
 
 -- a request that is served has passed refusals 1 to 6
 module _ (l : Lent) (t : List ℕ) where
-  record Past (o : Outcome) : Type 0 where
-    accepted : tableNumber t ≡ 0
-    nonce-long : length (l .nonce) ≡ 32
-    is : o ≡ carriedOut (verdict (l .request) (records t)) l t
+  pub record Past (o : Outcome) : Type 0 where
+    pub accepted : tableNumber t ≡ 0
+    pub nonce-long : length (l .nonce) ≡ 32
+    pub is : o ≡ carriedOut (verdict (l .request) (records t)) l t
 
-  past : answered l t .number ≡ 0 → Past (answered l t)
+  pub past : answered l t .number ≡ 0 → Past (answered l t)
   unfolding answered
   past =
       go (eqb (tableNumber t) 0) refl (ltb (length (l .reply)) leastReply) (ltb (length (l .request)) leastRequest) (eqb (length (l .streams)) 32 && eqb (length (l .nonce)) 32) refl

@@ -5,6 +5,11 @@ pub mod report;
 pub mod request;
 pub mod state;
 
+ghost use mathlib.Core.Path.{_≡_};
+ghost use Rattle.rules.specs.Call.{answerNumber, answerValue, firmwareNumber, firmwareValue};
+ghost use Rattle.rules.specs.Report.{reportNumber};
+ghost use Rattle.rules.specs.Table.{refusalNumber};
+
 // 01, "The table": records of one fixed size, 1 to 64 of them.
 pub const RECORD_BYTES: usize = 256;
 
@@ -27,7 +32,8 @@ pub struct Identity {
     pub valid: bool,
 }
 
-// A range of pages: 16 bytes of a record or of a report.
+// A range of pages: 16 bytes of a record or of a report. It crosses to C as it stands.
+#[repr(C)]
 pub struct Range {
     pub first: u64,
     pub pages: u32,
@@ -63,6 +69,24 @@ pub enum ReportVerdict {
     BadPages,
     FallingIds,
     SmallOutput,
+}
+
+impl ReportVerdict {
+    // The paper's number: 0 where the report is accepted.
+    pub fn number(self) -> u32
+        ensures { λ r. ⌜ r ≡ reportNumber self ⌝ }
+    {
+        match self {
+            ReportVerdict::Accepted => 0,
+            ReportVerdict::Short => 20,
+            ReportVerdict::TooMany => 21,
+            ReportVerdict::Longer => 22,
+            ReportVerdict::Reserved => 23,
+            ReportVerdict::BadPages => 24,
+            ReportVerdict::FallingIds => 25,
+            ReportVerdict::SmallOutput => 26,
+        }
+    }
 }
 
 // What the reader hands back: zeros beside a refusal.
@@ -109,10 +133,49 @@ pub enum Refusal {
     Interface,
 }
 
+impl Refusal {
+    // The paper's number.
+    pub fn number(self) -> u32
+        ensures { λ r. ⌜ r ≡ refusalNumber self ⌝ }
+    {
+        match self {
+            Refusal::TableLength => 1,
+            Refusal::TableRecord => 2,
+            Refusal::TableIdentities => 3,
+            Refusal::ReplyShort => 4,
+            Refusal::RequestShort => 5,
+            Refusal::Inputs => 6,
+            Refusal::Interface => 7,
+        }
+    }
+}
+
 // What a call returns: the reply's length, or how many records moved; or why it is refused.
 pub enum Answer {
     Served(usize),
     Refused(Refusal),
+}
+
+impl Answer {
+    // The paper's number: 0 where it is served.
+    pub fn number(self) -> u32
+        ensures { λ r. ⌜ r ≡ answerNumber self ⌝ }
+    {
+        match self {
+            Answer::Served(_) => 0,
+            Answer::Refused(why) => why.number(),
+        }
+    }
+
+    // The length or count: 0 beside a refusal.
+    pub fn value(self) -> usize
+        ensures { λ r. ⌜ r ≡ answerValue self ⌝ }
+    {
+        match self {
+            Answer::Served(n) => n,
+            Answer::Refused(_) => 0,
+        }
+    }
 }
 
 // What the firmware question returns: no beside a refusal.
@@ -120,6 +183,30 @@ pub enum FirmwareAnswer {
     Yes,
     No,
     Refused(Refusal),
+}
+
+impl FirmwareAnswer {
+    // The paper's number: 0 where it is served.
+    pub fn number(self) -> u32
+        ensures { λ r. ⌜ r ≡ firmwareNumber self ⌝ }
+    {
+        match self {
+            FirmwareAnswer::Yes => 0,
+            FirmwareAnswer::No => 0,
+            FirmwareAnswer::Refused(why) => why.number(),
+        }
+    }
+
+    // 1 for yes; no beside a refusal.
+    pub fn value(self) -> u32
+        ensures { λ r. ⌜ r ≡ firmwareValue self ⌝ }
+    {
+        match self {
+            FirmwareAnswer::Yes => 1,
+            FirmwareAnswer::No => 0,
+            FirmwareAnswer::Refused(_) => 0,
+        }
+    }
 }
 
 // What a table alone decides.

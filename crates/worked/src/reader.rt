@@ -1,6 +1,5 @@
 // The report reader's cases.
 use compare::case;
-use compare::number;
 use report::read::read_report;
 use wire::number::put16;
 use wire::number::put32;
@@ -9,7 +8,7 @@ use wire::number::put64;
 fn read(name: &[u8], s: &[u8], want: u64) {
     let r = read_report(s);
     let verdict = r.verdict;
-    case(name, number(verdict), want);
+    case(name, verdict.number() as u64, want);
 }
 
 // 20 zero bytes but for one, which stands at a place below 20.

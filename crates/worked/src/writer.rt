@@ -1,7 +1,6 @@
 // The report writer's cases.
 use compare::case;
 use compare::front;
-use compare::number;
 use report::write::write_report;
 use rules::Range;
 use rules::ReportFields;
@@ -45,7 +44,7 @@ fn written(
 ) {
     let r = write_report(fields(n, l, first, attributes), out);
     let verdict = r.verdict;
-    case(name, number(verdict), want);
+    case(name, verdict.number() as u64, want);
     case(b"  and its length", r.length as u64, length);
 }
 

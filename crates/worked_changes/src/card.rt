@@ -1,7 +1,5 @@
 // Tables in the memory of this program, and what a change gives. A record's first ten bytes are written out: FUNCTION_ID, state, nonce
 // held, flags, default stream, session; the rest of it is zero: offset 0, no ranges, no information.
-use compare::answer_number;
-use compare::answer_value;
 use compare::bytes;
 use compare::case;
 use rules::Answer;
@@ -36,8 +34,8 @@ pub(crate) fn card() -> [u8; 1024] {
 
 // A change's number and count.
 pub(crate) fn moved(name: &[u8], answer: Answer, number: u64, count: u64) {
-    case(name, answer_number(answer), number);
-    case(b"  records moved", answer_value(answer), count);
+    case(name, answer.number() as u64, number);
+    case(b"  records moved", answer.value() as u64, count);
 }
 
 // The states of the four interfaces.

@@ -1,7 +1,6 @@
 // All 256 classes against a running interface, with LOCK_MSIX and without: how many records each moves, and the state afterwards.
 use crate::card::one;
 use changes::write::register_write;
-use compare::answer_value;
 use compare::bytes;
 use rules::Answer;
 ghost use mathlib.Core.Path.{_≡_};
@@ -25,7 +24,7 @@ fn paper(moves: u8, stays: u8, two: u8) -> [u8; 256] {
 
 // A count, which is far below 255 here.
 fn low(answer: Answer) -> u8 {
-    let n = answer_value(answer);
+    let n = answer.value();
     if n < 255 {
         return n as u8;
     }

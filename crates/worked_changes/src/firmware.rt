@@ -2,38 +2,14 @@
 use crate::card::one;
 use changes::event::multicast;
 use changes::firmware::firmware_question;
-use compare::answer_number;
 use compare::case;
 use responder::respond;
-use rules::Answer;
 use rules::FirmwareAnswer;
 use rules::Session;
-ghost use mathlib.Core.Path.{_≡_};
-ghost use Rattle.rules.specs.Call.{firmwareNumber, firmwareValue};
-
-fn firmware_number(answer: FirmwareAnswer) -> u64
-    ensures { λ r. ⌜ r ≡ firmwareNumber answer ⌝ }
-{
-    match answer {
-        FirmwareAnswer::Yes => 0,
-        FirmwareAnswer::No => 0,
-        FirmwareAnswer::Refused(why) => answer_number(Answer::Refused(why)),
-    }
-}
-
-fn firmware_value(answer: FirmwareAnswer) -> u64
-    ensures { λ r. ⌜ r ≡ firmwareValue answer ⌝ }
-{
-    match answer {
-        FirmwareAnswer::Yes => 1,
-        FirmwareAnswer::No => 0,
-        FirmwareAnswer::Refused(_) => 0,
-    }
-}
 
 fn told(name: &[u8], answer: FirmwareAnswer, number: u64, yes: u64) {
-    case(name, firmware_number(answer), number);
-    case(b"  yes is 1", firmware_value(answer), yes);
+    case(name, answer.number() as u64, number);
+    case(b"  yes is 1", answer.value() as u64, yes);
 }
 
 fn stopped() {

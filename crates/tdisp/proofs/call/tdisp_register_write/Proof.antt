@@ -1,0 +1,17 @@
+-- `tdisp_register_write` meets its contract: the count fits. Assumes nothing.
+use borrow.Author.Needs.{needs}
+use Rattle.tdisp.proofs.Fits.{fits}
+use Rattle.tdisp.proofs.call.tdisp_register_write.Statement.{statement}
+use Rattle.tdisp.proofs.call.tdisp_register_write.Tie as tie
+
+moved-requires : tie.Need-moved-requires
+moved-requires c κs = search fits
+
+pub tdisp-register-write-spec : {M : Type 1} → statement M
+tdisp-register-write-spec =
+    tie.close
+    (tie.spec
+    (λ c κs. search needs)
+    moved-requires
+    (λ c. search needs)
+    (λ c. search needs))

@@ -1,0 +1,2 @@
+-- What the exported functions give, in the words of rules.
+pub mod Shown

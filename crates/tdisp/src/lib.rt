@@ -1,0 +1,3 @@
+// The C interface: thin exported functions over the proved crates. c/tdisp.h declares them.
+mod call;
+mod reports;
