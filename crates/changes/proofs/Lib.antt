@@ -1,5 +1,4 @@
 -- Laws that belong to no one function.
-pub mod OverRange
 pub mod Hitting
 pub mod Moving
 pub mod Sweeping

@@ -1,5 +1,5 @@
 // One record, as a change finds it.
-use handlers::record::clear;
+use moves::record::clear;
 use rules::place::STATE;
 use rules::state::CONFIG_LOCKED;
 use rules::state::ERROR;

@@ -1,7 +1,7 @@
 // Register writes.
-use crate::class::rule_of;
 use crate::event::sweep;
 use crate::record::move_record;
+use moves::class::rule_of;
 use rules::Answer;
 use rules::Event;
 use rules::Found;

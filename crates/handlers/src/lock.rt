@@ -1,7 +1,7 @@
 // 83h LOCK_INTERFACE.
-use crate::record::lock;
 use crate::reply::put_error;
 use crate::reply::put_message;
+use moves::record::lock;
 use rules::Session;
 use rules::Stream;
 use rules::flags::LockFlags;

@@ -1,8 +1,8 @@
 // 86h START_INTERFACE and 87h STOP_INTERFACE.
-use crate::record::clear;
-use crate::record::run;
 use crate::reply::put_error;
 use crate::reply::put_message;
+use moves::record::clear;
+use moves::record::run;
 use rules::place::NONCE;
 use rules::place::RANGES;
 use rules::request::INVALID_NONCE;

@@ -1,8 +1,8 @@
 -- `lock` meets its contract. Assumes nothing.
 use borrow.Author.Needs.{needs}
 use Rattle.rules.proofs.Messages.{locked-written}
-use Rattle.handlers.proofs.record.lock.Statement.{statement}
-use Rattle.handlers.proofs.record.lock.Tie as tie
+use Rattle.moves.proofs.record.lock.Statement.{statement}
+use Rattle.moves.proofs.record.lock.Tie as tie
 
 returns : tie.Need-returns
 returns c = search locked-written

@@ -1,8 +1,8 @@
 -- `run` meets its contract. Assumes nothing.
 use borrow.Author.Needs.{needs}
 use Rattle.rules.proofs.Messages.{running-written}
-use Rattle.handlers.proofs.record.run.Statement.{statement}
-use Rattle.handlers.proofs.record.run.Tie as tie
+use Rattle.moves.proofs.record.run.Statement.{statement}
+use Rattle.moves.proofs.record.run.Tie as tie
 
 returns : tie.Need-returns
 returns c = search running-written

@@ -3,9 +3,9 @@ use mathlib.Core.Path.{refl, sym, ap}
 use native.Mathlib.Omega.{arith}
 use Rattle.rules.specs.Change.{ruleOf}
 use Rattle.rules.specs.declared.Rule.{Rule}
-use Rattle.changes.proofs.OverRange.{over}
-use Rattle.changes.proofs.class.rule_of.Statement.{statement}
-use Rattle.changes.proofs.class.rule_of.Tie as tie
+use Rattle.moves.proofs.OverRange.{over}
+use Rattle.moves.proofs.class.rule_of.Statement.{statement}
+use Rattle.moves.proofs.class.rule_of.Tie as tie
 
 returns : tie.Need-returns
 unfolding ruleOf

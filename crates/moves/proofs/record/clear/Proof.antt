@@ -1,8 +1,8 @@
 -- `clear` meets its contract. Assumes nothing.
 use borrow.Author.Needs.{needs}
 use Rattle.rules.proofs.Messages.{cleared-written}
-use Rattle.handlers.proofs.record.clear.Statement.{statement}
-use Rattle.handlers.proofs.record.clear.Tie as tie
+use Rattle.moves.proofs.record.clear.Statement.{statement}
+use Rattle.moves.proofs.record.clear.Tie as tie
 
 returns : tie.Need-returns
 returns c = search cleared-written

@@ -6,8 +6,8 @@ use borrow.Author.Needs.{needs}
 use Rattle.rules.specs.Bytes.{bytesOf, over}
 use Rattle.rules.specs.Lock.{stored}
 use Rattle.rules.specs.Record.{CONFIG_LOCKED}
-use Rattle.handlers.proofs.record.lock_head.Statement.{statement}
-use Rattle.handlers.proofs.record.lock_head.Tie as tie
+use Rattle.moves.proofs.record.lock_head.Statement.{statement}
+use Rattle.moves.proofs.record.lock_head.Tie as tie
 
 -- x is the number that is written over the two zeros
 six-bytes : (flags x stream session : ℕ) (h : List ℕ) → x ≡ stored flags
