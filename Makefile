@@ -1,7 +1,8 @@
 # make test   the gate: prove everything from nothing, try the edits that must be refused, test the archive. Its last line is 'N passed, 0 failed'.
 # make lib    prove the library, write the archive, and put it with its header into target/tdisp
+# make demo   a card of three interfaces to look at; target/bin/card replays scripts: see docs/CARD.md
 # make bench  the proved responder and an ordinary one, side by side: see docs/SPEED.md
-.PHONY: test names lib bench
+.PHONY: test names lib demo bench
 
 CFLAGS = -std=c11 -O2 -Wall -Wextra -Werror
 
@@ -25,6 +26,11 @@ target/c/%: c/%.c target/tdisp/libtdisp.a target/tdisp/tdisp.h
 
 target/tdisp/libtdisp.a target/tdisp/tdisp.h:
 	@$(MAKE) --no-print-directory lib
+
+demo:
+	@mkdir -p target
+	@rt check card > target/demo.log 2>&1 || { cat target/demo.log; exit 1; }
+	@target/bin/card
 
 bench: lib
 	@cd rust && cargo run --release --offline --quiet --bin bench
