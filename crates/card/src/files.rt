@@ -1,6 +1,6 @@
 // Files that the arguments name.
-use crate::say::decimal;
-use crate::say::say;
+use show::say::decimal;
+use show::say::say;
 ghost use Rattle.io.specs.Counts.{Counts};
 
 // What came of a file: whether it could be read, whether that was all of it, and how many bytes.

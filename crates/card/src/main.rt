@@ -1,16 +1,14 @@
 // A card in memory: without arguments an embedded one of three interfaces is shown; with a table file and a script its calls are replayed.
-mod call;
 mod demo;
-mod digits;
 mod files;
-mod line;
-mod names;
 mod replay;
-mod reply;
-mod say;
-mod settings;
-mod states;
-mod text;
+
+use show::say::warn;
+
+// How the program is called.
+fn usage() {
+    warn(b"usage: card [TABLE SCRIPT [TABLE-AFTER]]\n");
+}
 
 // The demo, a replay, or how the program is called.
 fn main() {
@@ -20,11 +18,11 @@ fn main() {
         return;
     }
     if count == 2 {
-        say::usage();
+        usage();
         return;
     }
     if count > 4 {
-        say::usage();
+        usage();
         return;
     }
     replay::files(count);

@@ -1,16 +1,12 @@
 // A script, replayed: every line is read before the first is run.
-use crate::call::make;
-use crate::digits::Wrong;
 use crate::files::load;
 use crate::files::save;
-use crate::line::Line;
-use crate::line::read;
-use crate::say::say;
-use crate::say::warn;
-use crate::settings;
-use crate::settings::Settings;
-use crate::text::find;
-use libc::STDERR_FILENO;
+use calls::run::good;
+use calls::run::run_line;
+use script::settings::start;
+use script::text::find;
+use show::say::say;
+use show::say::warn;
 ghost use Prim.Native.Nat.{_≤_};
 ghost use lib.ListN.{length};
 
@@ -18,44 +14,6 @@ ghost use lib.ListN.{length};
 const MOST_TABLE: usize = 16384;
 
 const TABLE_READ: usize = 16385;
-
-// What is wrong with a line.
-fn why_bad(why: Wrong) {
-    match why {
-        Wrong::LongLine => warn(b"longer than 1024 bytes"),
-        Wrong::Word => warn(b"an unknown word"),
-        Wrong::Missing => warn(b"something is missing"),
-        Wrong::Extra => warn(b"something stands after it"),
-        Wrong::DecimalDigit => warn(b"no decimal digit"),
-        Wrong::HexDigit => warn(b"no hex digit"),
-        Wrong::Odd => warn(b"an odd number of hex digits"),
-        Wrong::Large => warn(b"the number is too large"),
-        Wrong::Long => warn(b"too many bytes"),
-    }
-}
-
-// A bad line, named by its number.
-fn name_bad(number: u64, why: Wrong) {
-    warn(b"script line ");
-    io::print_decimal(STDERR_FILENO, number);
-    warn(b": ");
-    why_bad(why);
-    warn(b"; nothing was run\n");
-}
-
-// Whether a line is good; a bad one is named.
-fn good(line: &[u8], number: u64) -> bool {
-    let mut bytes = [0u8; 512];
-    match read(line, &mut bytes) {
-        Line::Bad(why) => {
-            name_bad(number, why);
-            false
-        }
-        Line::Empty => true,
-        Line::Set(_) => true,
-        Line::Do(_) => true,
-    }
-}
 
 // Whether every line is good; the first bad one is named.
 fn all_good(script: &[u8]) -> bool
@@ -74,25 +32,11 @@ fn all_good(script: &[u8]) -> bool
     true
 }
 
-// A line, run; the settings after it.
-fn run_line(line: &[u8], s: Settings, table: &mut [u8]) -> Settings {
-    let mut bytes = [0u8; 512];
-    match read(line, &mut bytes) {
-        Line::Empty => s,
-        Line::Bad(_) => s,
-        Line::Set(setting) => settings::set(setting, &bytes, s),
-        Line::Do(call) => {
-            make(call, &bytes, s, table);
-            s
-        }
-    }
-}
-
 // Every line, in order.
-fn run(script: &[u8], table: &mut [u8])
+pub(crate) fn run(script: &[u8], table: &mut [u8])
     requires { ⌜ length (now script) ≤ 65536 ⌝ }
 {
-    let mut s = settings::start();
+    let mut s = start();
     let mut at = 0;
     while at < script.len() {
         let end = find(script, at, 10);

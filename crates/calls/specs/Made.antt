@@ -1,0 +1,55 @@
+-- A line of a script, run: its call as a call of rules, the settings and the table after it. Assumes nothing.
+use mathlib.Core.Bool.{Bool, true, false}
+use mathlib.Core.List.{List}
+use Prim.Native.Nat.{ℕ}
+use lib.ListN.{take}
+use Rattle.rules.specs.Bytes.{blank}
+use Rattle.rules.specs.Call as rules
+use Rattle.rules.specs.Request.{Lent, lent}
+use Rattle.script.specs.Line.{Reading}
+use Rattle.script.specs.Settings.{setBy}
+use Rattle.script.specs.declared.line.Call.{Call}
+use Rattle.script.specs.declared.line.Line.{Line}
+use Rattle.script.specs.declared.settings.Settings.{Settings}
+
+-- what a request is lent: the settings give all but the message and the reply buffer
+abbrev pub lentBy : List ℕ → List ℕ → Settings → Lent
+lentBy request reply s =
+    lent request reply (take (s .«nonce_bytes») (s .nonce)) (s .ready) (take (s .«stream_bytes») (s .streams)) (s .session)
+
+-- a request's bytes are the first of those beside it; its reply buffer is blank
+abbrev pub callOf : Call → List ℕ → Settings → rules.Call
+callOf (Call.Request n) bytes s = rules.Request (lentBy (take n bytes) (take (s .«reply_bytes») (blank 512)) s)
+callOf (Call.RegisterWrite id class) bytes s = rules.RegisterWrite id class
+callOf (Call.Happen event) bytes s = rules.DeviceWide event
+callOf Call.Firmware bytes s = rules.FirmwareQuestion
+
+-- ---- a line, by what it says and its bytes
+
+abbrev pub goodLine : Line → Bool
+goodLine Line.Empty = true
+goodLine (Line.Bad wrong) = false
+goodLine (Line.Set setting) = true
+goodLine (Line.Do call) = true
+
+abbrev pub isGood : Reading → Bool
+isGood r = goodLine (r .line)
+
+-- only a setting line changes the settings, and only a call the table
+abbrev pub settingsBy : Line → List ℕ → Settings → Settings
+settingsBy Line.Empty bytes s = s
+settingsBy (Line.Bad wrong) bytes s = s
+settingsBy (Line.Set setting) bytes s = setBy setting bytes s
+settingsBy (Line.Do call) bytes s = s
+
+abbrev pub settingsAfter : Reading → Settings → Settings
+settingsAfter r s = settingsBy (r .line) (r .out) s
+
+abbrev pub tableBy : Line → List ℕ → Settings → List ℕ → List ℕ
+tableBy Line.Empty bytes s t = t
+tableBy (Line.Bad wrong) bytes s t = t
+tableBy (Line.Set setting) bytes s t = t
+tableBy (Line.Do call) bytes s t = rules.step (callOf call bytes s) t .table
+
+abbrev pub tableAfter : Reading → Settings → List ℕ → List ℕ
+tableAfter r s t = tableBy (r .line) (r .out) s t

@@ -1,0 +1,4 @@
+// A script's lines, run: its calls are made on a table, and shown.
+pub mod make;
+pub mod run;
+mod told;

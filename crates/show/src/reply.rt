@@ -1,0 +1,167 @@
+// A reply's fields, each with its name, its bytes in their order and, where it is a number, the number.
+use crate::names;
+use crate::say::hex;
+use crate::say::name;
+use crate::say::number;
+use crate::say::say;
+use crate::states;
+use compare::least;
+use rules::request::HEADER;
+use wire::number::num16;
+use wire::number::num32;
+ghost use mathlib.Core.Path.{_≡_};
+ghost use Prim.Native.Nat.{_<_, min};
+ghost use lib.ListN.{length};
+ghost use Rattle.show.specs.Reply.{shown};
+
+// The bytes from a place to an end, as far as the reply has them.
+fn part(s: &[u8], at: usize, end: usize) {
+    let last = least(end, s.len());
+    let first = least(at, last);
+    hex(&s[first..last]);
+}
+
+// A field of bytes.
+fn field(title: &[u8], s: &[u8], at: usize, end: usize) {
+    say(b"    ");
+    say(title);
+    say(b":");
+    part(s, at, end);
+    say(b"\n");
+}
+
+// A field's name and its bytes, which stand low byte first.
+fn low_first(title: &[u8], s: &[u8], at: usize, end: usize) {
+    say(b"    ");
+    say(title);
+    say(b", low byte first:");
+    part(s, at, end);
+    say(b" = ");
+}
+
+// A number of 2 bytes.
+fn field16(title: &[u8], s: &[u8], at: usize)
+    requires { ⌜ at < 256 ⌝ }
+{
+    let end = at + 2;
+    if end <= s.len() {
+        low_first(title, s, at, end);
+        number(num16(s, at) as u64, 4);
+        say(b"\n");
+    }
+}
+
+// A number of 4 bytes.
+fn field32(title: &[u8], s: &[u8], at: usize, digits: usize)
+    requires { ⌜ at < 256 ⌝ }
+{
+    let end = at + 4;
+    if end <= s.len() {
+        low_first(title, s, at, end);
+        number(num32(s, at) as u64, digits);
+        say(b"\n");
+    }
+}
+
+// The 16 bytes that every reply begins with.
+fn header(s: &[u8]) {
+    field(b"version", s, 0, 1);
+    field(b"type", s, 1, 2);
+    field(b"reserved", s, 2, 4);
+    field32(b"FUNCTION_ID", s, 4, 8);
+    field(b"reserved", s, 8, 16);
+}
+
+// TDISP_VERSION.
+fn version(s: &[u8]) {
+    field(b"VERSION_NUM_COUNT", s, 16, 17);
+    field(b"VERSION_NUM_ENTRY", s, 17, 18);
+}
+
+// TDISP_CAPABILITIES.
+fn capabilities(s: &[u8]) {
+    field32(b"DSM_CAPS", s, 16, 8);
+    field(b"REQ_MSGS_SUPPORTED, bit n is 80h + n", s, 20, 36);
+    field16(b"LOCK_INTERFACE_FLAGS_SUPPORTED", s, 36);
+    field(b"reserved", s, 38, 41);
+    field(b"DEV_ADDR_WIDTH", s, 41, 42);
+    field(b"NUM_REQ_THIS", s, 42, 43);
+    field(b"NUM_REQ_ALL", s, 43, 44);
+}
+
+// DEVICE_INTERFACE_REPORT.
+fn report(s: &[u8]) {
+    field16(b"PORTION_LENGTH", s, 16);
+    field16(b"REMAINDER_LENGTH", s, 18);
+    field(b"REPORT_BYTES", s, 20, s.len());
+}
+
+// DEVICE_INTERFACE_STATE.
+fn state(s: &[u8]) {
+    if s.len() > HEADER {
+        say(b"    TDI_STATE:");
+        part(s, 16, 17);
+        say(b" = ");
+        states::state(s[HEADER]);
+        say(b"\n");
+    }
+}
+
+// TDISP_ERROR.
+fn error(s: &[u8]) {
+    if s.len() >= 24 {
+        low_first(b"ERROR_CODE", s, 16, 20);
+        number(num32(s, 16) as u64, 8);
+        say(b" ");
+        name(names::error(num32(s, 16)));
+        say(b"\n");
+        field32(b"ERROR_DATA", s, 20, 8);
+    }
+}
+
+// What follows the header, by the reply's type.
+fn payload(kind: u8, s: &[u8]) {
+    match kind {
+        1 => version(s),
+        2 => capabilities(s),
+        3 => field(b"START_INTERFACE_NONCE", s, 16, 48),
+        4 => report(s),
+        5 => state(s),
+        0x7f => error(s),
+        _ => {}
+    }
+}
+
+// A reply: its type, all its bytes, its fields; how many bytes.
+fn fields(s: &[u8]) -> usize
+    ensures { λ r. ⌜ r ≡ shown (length (now (s .entry))) ⌝ }
+{
+    if s.len() < HEADER {
+        return 0;
+    }
+    let kind = s[1];
+    say(b"  reply ");
+    name(names::reply(kind));
+    say(b":");
+    hex(s);
+    say(b"\n");
+    header(s);
+    payload(kind, s);
+    s.len()
+}
+
+// The reply at the front of a buffer, of a length; how many bytes.
+fn front(buffer: &[u8], n: usize) -> usize
+    ensures { λ r. ⌜ r ≡ shown (min n (length (now (buffer .entry)))) ⌝ }
+{
+    let first = 0;
+    let end = least(n, buffer.len());
+    fields(&buffer[first..end])
+}
+
+// The reply in the buffer; how many bytes. There is none beside a refusal, whose length is 0.
+pub fn show(buffer: &[u8; 512], n: usize) -> usize
+    ensures { λ r. ⌜ r ≡ shown (min n (length (now (buffer .entry)))) ⌝ }
+{
+    front(buffer, n)
+}
