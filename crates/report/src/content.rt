@@ -1,9 +1,9 @@
 // What is in a report: 23 to 25.
+use ranges::range::all_attributes;
+use ranges::range::all_pages;
+use ranges::range::never_fall;
 use rules::Range;
 use rules::ReportVerdict;
-use table::range::all_attributes;
-use table::range::all_pages;
-use table::range::never_fall;
 ghost use mathlib.Core.Path.{_≡_};
 ghost use Prim.Native.Nat.{_≤_};
 ghost use Rattle.rules.specs.Range.{mostRanges, rangeIn};

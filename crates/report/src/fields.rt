@@ -1,4 +1,6 @@
 // The fields of a report, read from its bytes.
+use ranges::range::ranges_from;
+use ranges::range::zero_range;
 use rules::ReportFields;
 use rules::place::RANGE_BYTES;
 use rules::report::COUNT;
@@ -6,8 +8,6 @@ use rules::report::LNR;
 use rules::report::MSIX;
 use rules::report::RANGES;
 use rules::report::TPH;
-use table::range::ranges_from;
-use table::range::zero_range;
 use wire::copy::copy_over;
 use wire::number::num16;
 use wire::number::num32;

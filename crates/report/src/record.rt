@@ -1,5 +1,8 @@
 // The fields of a record's report: 01, "Report".
 use crate::fields::information_from;
+use ranges::offset::shift;
+use ranges::range::ranges_from;
+use ranges::range::zero_range;
 use rules::Range;
 use rules::ReportFields;
 use rules::Shifted;
@@ -14,9 +17,6 @@ use rules::place::OFFSET;
 use rules::place::RANGE_COUNT;
 use rules::place::RANGES;
 use rules::place::TPH_CONTROL;
-use table::offset::shift;
-use table::range::ranges_from;
-use table::range::zero_range;
 use wire::number::num16;
 use wire::number::num32;
 use wire::number::num64;

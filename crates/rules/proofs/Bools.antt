@@ -18,6 +18,10 @@ pub and-false : (a : Bool) → a && false ≡ false
 and-false true = refl
 and-false false = refl
 
+pub and-assoc : (a b c : Bool) → a && b && c ≡ a && (b && c)
+and-assoc true b c = refl
+and-assoc false b c = refl
+
 pub and-left : (a b : Bool) → a && b ≡ true → a ≡ true
 and-left true b e = refl
 and-left false b e = e

@@ -8,7 +8,7 @@ use borrow.Author.Tests.{not-true, not-false}
 use lib.ListN.{length, drop}
 use Rattle.rules.specs.Bytes.{if_then_else_}
 use Rattle.rules.specs.Record.{Rec}
-use Rattle.rules.specs.Table.{records, recordAt, recordBytes, all, identity, namesNot, distinct, names, findFrom}
+use Rattle.rules.specs.Table.{records, recordAt, recordBytes, all, names, findFrom}
 use Rattle.rules.specs.declared.Identity.{Identity}
 use Rattle.rules.specs.declared.Found.{Found}
 use Rattle.rules.specs.declared.Found.the-variants.{At, Nothing}
@@ -30,24 +30,6 @@ module _ (t : List ℕ) (k : ℕ) where
     pub all-end : {whole : Bool} → whole ≡ all p (drop k (records t)) → length t / recordBytes ≤ k → true ≡ whole
     unfolding all
     all-end w h = sym (w ∙ rw (records-end t k h))
-
-  -- ---- no two alike; b: no record after record k has its identity
-
-  abbrev pub fresh : Bool
-  fresh = all (namesNot (identity (recordAt t k))) (drop (k + 1) (records t))
-
-  pub distinct-next : {b whole : Bool} → whole ≡ distinct (drop k (records t)) → k < length t / recordBytes → b ≡ fresh → not b ≡ false
-      → whole ≡ distinct (drop (k + 1) (records t))
-  unfolding distinct
-  distinct-next {b} w h told e = w ∙ rw (records-from t k h, ← told, not-false b e)
-
-  pub distinct-stop : {b whole : Bool} → whole ≡ distinct (drop k (records t)) → k < length t / recordBytes → b ≡ fresh → not b ≡ true → false ≡ whole
-  unfolding distinct
-  distinct-stop {b} w h told e = sym (w ∙ rw (records-from t k h, ← told, not-true b e))
-
-  pub distinct-end : {whole : Bool} → whole ≡ distinct (drop k (records t)) → length t / recordBytes ≤ k → true ≡ whole
-  unfolding distinct
-  distinct-end w h = sym (w ∙ rw (records-end t k h))
 
   -- ---- a lookup; b: record k is the one
 

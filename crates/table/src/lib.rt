@@ -3,6 +3,4 @@ pub mod find;
 pub mod identity;
 pub mod judge;
 pub mod lock;
-pub mod offset;
-pub mod range;
 pub mod record;

@@ -1,17 +1,34 @@
--- `information_ok` meets its contract. Assumes nothing.
+-- `information_ok` meets its contract: nothing stands past 52 bytes of information. Assumes nothing.
+use mathlib.Core.Path.{_≡_, refl, sym, _∙_}
+use mathlib.Core.Bool.{Bool, true, false, _&&_}
+use Prim.Native.Nat.{ℕ, _+_, _≤_, _<_}
+use native.Mathlib.Omega.{arith}
+use lib.Dec.{eqb, leb}
 use borrow.Author.Needs.{needs}
-use borrow.Author.Tests.{lt-leb, le-leb}
-use Rattle.rules.specs.Record.{informationOk}
+use borrow.Author.Tests.{eqb-true, eqb-false, lt-leb, le-leb}
+use Rattle.rules.specs.Bytes.{every, zeros}
+use Rattle.rules.specs.Record.{Rec, mostInformation, informationLength, informationOk}
 use Rattle.table.proofs.record.information_ok.Statement.{statement}
 use Rattle.table.proofs.record.information_ok.Tie as tie
 
+module _ (r : Rec) (l : ℕ) (is : l ≡ informationLength r) where
+  full : mostInformation ≤ l → eqb l mostInformation ≡ informationOk r
+  unfolding informationOk zeros every
+  full h = rw (← is) (by (eqb l mostInformation) refl)
+    where
+      by : (b : Bool) → eqb l mostInformation ≡ b → b ≡ (leb l mostInformation && zeros r (204 + l) 255)
+      by true e = rw (eqb-true l mostInformation e)
+      by false e = let n : mostInformation < l = omega (arith, eqb-false l mostInformation e) in rw (lt-leb l mostInformation n)
+
+  less : {b : Bool} → l < mostInformation → b ≡ zeros r (204 + l) 255 → b ≡ informationOk r
+  unfolding informationOk
+  less h told = rw (← is, le-leb l mostInformation (omega arith)) told
+
 returns : tie.Need-returns
-unfolding informationOk
-returns c = rw (← c .before .num32 .ensures, lt-leb _ _ (c .if1 .taken))
+returns c = search full
 
 returns-2 : tie.Need-returns-2
-unfolding informationOk
-returns-2 c = rw (← c .before .before .num32 .ensures, le-leb _ _ (c .before .if1 .left)) (c .zero .ensures)
+returns-2 c = search less
 
 pub information-ok-spec : {M : Type 1} → statement M
 information-ok-spec =

@@ -1,48 +1,22 @@
--- `zero` meets its contract: the flag says whether the bytes passed are zero. Assumes nothing.
-use mathlib.Core.Path.{_≡_, _∙_}
-use mathlib.Core.Logic.{⊎-elim}
-use Prim.Native.Nat.{_≤_, _-_}
+-- `zero` meets its contract. Assumes nothing.
 use borrow.Author.Needs.{needs}
-use borrow.Author.Tests.{eq-eqb, ne-eqb}
-use Rattle.rules.specs.Bytes.{every, zeroAt, zeros}
-use Rattle.rules.proofs.Every.{every-none, every-drops, every-keeps, every-done}
+use Rattle.rules.specs.Bytes.{zeros}
+use Rattle.wire.proofs.Zeros.{words-and-bytes}
 use Rattle.wire.proofs.zero.zero.Statement.{statement}
 use Rattle.wire.proofs.zero.zero.Tie as tie
 
-abbrev Inv-loop : tie.InvT-loop
-Inv-loop s first last n ok₀ i₀ ok i = (i ≤ n) × (ok ≡ every i (zeroAt s first))
-
-abbrev μ-loop : tie.MeasureT-loop
-μ-loop s first last n ok₀ i₀ ok i = n - i
-
-loop-holds : tie.Need-loop-holds Inv-loop μ-loop
-loop-holds c = (search needs, every-none _)
-
-loop-again : tie.Need-loop-again Inv-loop μ-loop
-loop-again c = (
-  search needs,
-  ⊎-elim
-      (λ w. w .1 ∙ every-drops _ _ (ne-eqb _ _ (w .0 .taken)))
-      (λ w. every-keeps _ _ (w .1 ∙ c .before .before .before .loop .inv .1) (eq-eqb _ _ (w .0 .left)))
-      (c .if1 .came),
-)
-
-returns : tie.Need-returns Inv-loop μ-loop
+returns : tie.Need-returns
 unfolding zeros
-returns c = every-done _ _ _ (c .before .loop .inv .0) (c .loop-test .left) (c .before .loop .inv .1)
+returns c = search words-and-bytes
 
 pub zero-spec : {M : Type 1} → statement M
 zero-spec =
     tie.close
     (tie.spec
-    Inv-loop
-    μ-loop
     (λ c. search needs)
     (λ c. search needs)
-    loop-holds
+    (λ c κs. search needs)
     (λ c. search needs)
     (λ c. search needs)
-    (λ c. search needs)
-    (λ c. search needs)
-    loop-again
+    (λ c κs. search needs)
     returns)

@@ -1,0 +1,4 @@
+-- Laws that belong to no one function.
+pub mod Falls
+pub mod Ints
+pub mod Limits

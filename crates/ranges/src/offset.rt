@@ -1,0 +1,102 @@
+// The MMIO reporting offset. It is a signed 64-bit number: an i64 in here, and its eight bytes' number, a u64, outside.
+use crate::range::range_from;
+use rules::PAGES_END;
+use rules::Range;
+use rules::Shifted;
+use rules::place::RANGE_BYTES;
+use rules::place::RANGE_COUNT;
+use rules::place::RANGES;
+ghost use mathlib.Core.Path.{_≡_};
+ghost use mathlib.Core.Bool.{true};
+ghost use Prim.Native.Nat.{_≤_};
+ghost use lib.ListN.{length};
+ghost use lib.IntN.{pos, _+ℤ_};
+ghost use lib.Signed.{quotZ};
+ghost use Rattle.rules.specs.Range.{mostRanges, pagesEnd, pagesOk};
+ghost use Rattle.rules.specs.Lock.{pageBytes, signed, wholePages, fitted, shifted, stays, allStay};
+ghost use Rattle.rules.specs.Record.{rangeCount, rangeOf, rangesOk};
+ghost use Rattle.rules.specs.Table.{recordBytes};
+
+const PAGE_BYTES: i64 = 4096;
+
+// Two's complement.
+fn signed(x: u64) -> i64
+    ensures { λ r. ⌜ r ≡ signed x ⌝ }
+{
+    if x < 9223372036854775808 {
+        x as i64
+    } else {
+        -1 - ((18446744073709551615 - x) as i64)
+    }
+}
+
+// The first page moved by the offset's pages, at least 0 and, with the pages added, at most 2^52.
+fn shift_by(offset: i64, first: u64, pages: u32) -> Shifted
+    requires { ⌜ first ≤ pagesEnd ⌝ }
+    ensures { λ r. ⌜ r ≡ fitted (pos first +ℤ quotZ offset (pos pageBytes)) pages ⌝ }
+{
+    let moved = (first as i64) + offset / PAGE_BYTES;
+    if moved < 0 {
+        return Shifted::Out;
+    }
+    let page = moved as u64;
+    if page + (pages as u64) <= PAGES_END {
+        Shifted::Page(page)
+    } else {
+        Shifted::Out
+    }
+}
+
+fn is_whole(offset: i64) -> bool
+    ensures { λ r. ⌜ r ≡ wholePages offset ⌝ }
+{
+    offset % PAGE_BYTES == 0
+}
+
+// Whether the offset is a multiple of 4096.
+pub fn whole_pages(x: u64) -> bool
+    ensures { λ r. ⌜ r ≡ wholePages (signed x) ⌝ }
+{
+    is_whole(signed(x))
+}
+
+// What the offset makes of a range.
+pub fn shift(x: u64, range: Range) -> Shifted
+    requires { ⌜ range .first ≤ pagesEnd ⌝ }
+    ensures { λ r. ⌜ r ≡ shifted (signed x) range ⌝ }
+{
+    shift_by(signed(x), range.first, range.pages)
+}
+
+fn stays(s: Shifted) -> bool
+    ensures { λ b. ⌜ b ≡ stays s ⌝ }
+{
+    match s {
+        Shifted::Page(_) => true,
+        Shifted::Out => false,
+    }
+}
+
+fn range_stays(x: u64, range: Range) -> bool
+    requires { ⌜ pagesOk range ≡ true ⌝ }
+    ensures { λ b. ⌜ b ≡ stays (shifted (signed x) range) ⌝ }
+{
+    stays(shift(x, range))
+}
+
+// Whether the ranges of a record, which keep their rules, stay with the offset.
+pub fn all_stay(x: u64, r: &[u8]) -> bool
+    requires { ⌜ (length (now r) ≡ recordBytes) × (rangeCount (now r) ≤ mostRanges) × (rangesOk (now r) ≡ true) ⌝ }
+    ensures { λ b. ⌜ b ≡ allStay (signed x) (rangeCount (now (r .entry))) (rangeOf (now (r .entry))) ⌝ }
+{
+    let n = r[RANGE_COUNT] as usize;
+    let mut k = 0;
+    while k < n {
+        let range = range_from(r, RANGES + k * RANGE_BYTES);
+        if !range_stays(x, range) {
+            return false;
+        }
+        k += 1;
+    }
+    true
+}
