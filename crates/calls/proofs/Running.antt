@@ -1,16 +1,12 @@
 -- A line, run: a law for each way out. Assumes nothing.
 use mathlib.Core.Bool.{Bool}
 use mathlib.Core.List.{List}
-use mathlib.Core.Path.{_≡_, refl, sym}
+use mathlib.Core.Path.{_≡_}
 use Prim.Native.Nat.{ℕ}
-use Rattle.rules.specs.Call.{step}
 use Rattle.script.specs.Line.{Reading, Reads}
-use Rattle.script.specs.Settings.{setBy}
-use Rattle.script.specs.declared.line.Call.{Call}
 use Rattle.script.specs.declared.line.Line.{Line}
-use Rattle.script.specs.declared.settings.Setting.{Setting}
 use Rattle.script.specs.declared.settings.Settings.{Settings}
-use Rattle.calls.specs.Made.{goodLine, isGood, callOf, settingsBy, settingsAfter, tableBy, tableAfter}
+use Rattle.calls.specs.Made.{goodLine, isGood, settingsBy, settingsAfter, tableBy, tableAfter}
 
 module _ (r : Reading) (line : Line) (bytes : List ℕ) (e : Reads r line bytes) where
   pub judged : (l : Line) (b : Bool) → line ≡ l → b ≡ goodLine l → b ≡ isGood r

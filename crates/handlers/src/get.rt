@@ -1,9 +1,9 @@
 // The requests that change nothing: 81h, 82h, 84h and 85h.
-use crate::reply::put_error;
-use crate::reply::put_header;
-use crate::reply::put_message;
-use report::portion::put_portion;
-use report::portion::report_total;
+use portions::portion::put_portion;
+use portions::portion::report_total;
+use replies::put_error;
+use replies::put_header;
+use replies::put_message;
 use rules::place::STATE;
 use rules::request::HEADER;
 use rules::request::INVALID_REQUEST;
@@ -18,7 +18,7 @@ ghost use lib.ListN.{length};
 ghost use Rattle.rules.specs.Record.{recordOk};
 ghost use Rattle.rules.specs.Request.{getVersion, getCapabilities, getReport, getState};
 ghost use Rattle.rules.specs.Table.{recordBytes};
-ghost use Rattle.handlers.specs.Does.{Replies};
+ghost use Rattle.replies.specs.Replies.{Replies};
 
 // 01 10.
 pub fn get_version(request: &[u8], reply: &mut [u8]) -> usize

@@ -1,6 +1,3 @@
-// What each request does to the record that it names, and the reply it gets.
+// What each request gets: the questions answered here, lock, start and stop passed on.
 mod get;
-mod lock;
-pub mod reply;
 pub mod serve;
-mod start;

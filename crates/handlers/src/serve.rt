@@ -3,10 +3,10 @@ use crate::get::get_capabilities;
 use crate::get::get_report;
 use crate::get::get_state;
 use crate::get::get_version;
-use crate::lock::lock_interface;
-use crate::reply::put_error;
-use crate::start::start_interface;
-use crate::start::stop_interface;
+use locks::lock::lock_interface;
+use locks::start::start_interface;
+use locks::start::stop_interface;
+use replies::put_error;
 use rules::Session;
 use rules::place::STATE;
 use rules::request::GET_DEVICE_INTERFACE_REPORT;
@@ -25,7 +25,8 @@ ghost use lib.ListN.{length};
 ghost use Rattle.rules.specs.Record.{recordOk};
 ghost use Rattle.rules.specs.Request.{kindOf, exactLength, legalIn, lent, effect, gets};
 ghost use Rattle.rules.specs.Table.{recordBytes};
-ghost use Rattle.handlers.specs.Does.{Replies, Does};
+ghost use Rattle.locks.specs.Does.{Does};
+ghost use Rattle.replies.specs.Replies.{Replies};
 
 // Lock in state 0, report and start in state 1, any other in any state.
 fn legal(kind: u8, state: u8) -> bool

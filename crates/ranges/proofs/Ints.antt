@@ -10,7 +10,7 @@ use mir.Val.{SFits, toZ, ofZ}
 use lib.Dec.{T, eqb, ltb, lit<}
 use lib.IntN.{ℤ, pos, negsuc, negℤ, _+ℤ_, _-ℤ_, natAbs}
 use lib.Signed.{mag, quotZ, remZ, ltZ, nonNeg}
-use borrow.Author.Tests.{eqb-true, eqb-false, eq-eqb, ne-eqb, ltb-true, le-leb, lt-leb}
+use borrow.Author.Tests.{ne-eqb, ltb-true, le-leb, lt-leb}
 use Rattle.rules.specs.Lock.{wholePages, fitted}
 use Rattle.rules.specs.declared.Shifted.the-variants.{Page, Out}
 

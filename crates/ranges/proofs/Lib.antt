@@ -1,4 +1,3 @@
 -- Laws that belong to no one function.
 pub mod Falls
 pub mod Ints
-pub mod Limits

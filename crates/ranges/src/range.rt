@@ -23,7 +23,7 @@ pub fn zero_range() -> Range
     }
 }
 
-pub(crate) fn range_from(s: &[u8], at: usize) -> Range
+pub fn range_from(s: &[u8], at: usize) -> Range
     requires { ⌜ at + rangeBytes ≤ length (now s) ⌝ }
     ensures { λ r. ⌜ r ≡ rangeFrom (now (s .entry)) at ⌝ }
 {
@@ -96,13 +96,13 @@ pub fn all_attributes(ranges: [Range; 8], n: usize) -> bool
 }
 
 // The least ID that a later range of ID 0 to 7 may have, once a range has ID `id`.
-pub(crate) fn least_after(least: u16, id: u16) -> u16
+pub fn least_after(least: u16, id: u16) -> u16
     ensures { λ r. ⌜ r ≡ (if leb id 7 then id else least) ⌝ }
 {
     if id <= 7 { id } else { least }
 }
 
-pub(crate) fn id_of(range: Range) -> u16
+pub fn id_of(range: Range) -> u16
     ensures { λ r. ⌜ r ≡ range .id ⌝ }
 {
     range.id

@@ -1,8 +1,6 @@
-// Interface reports: read, written, and composed from a record.
+// Interface reports: read and written.
 mod content;
-mod fields;
-pub mod portion;
-mod put;
+pub mod fields;
+pub mod put;
 pub mod read;
-mod record;
 pub mod write;

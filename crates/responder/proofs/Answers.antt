@@ -3,9 +3,8 @@ use mathlib.Core.Path.{_≡_, refl, sym, ap, _∙_}
 use mathlib.Core.List.{List}
 use Prim.Native.Nat.{ℕ, _/_, _≤_, _<_}
 use borrow.Author.Tests.{eq-eqb, ne-eqb, le-ltb, lt-ltb}
-use lib.Dec.{eqb, ltb}
 use lib.ListN.{length, set}
-use Rattle.rules.specs.Call.{join, refused, carriedOut, answered, Gives}
+use Rattle.rules.specs.Call.{join, carriedOut, answered, Gives}
 use Rattle.rules.specs.Request.{Lent, kindOf, exactLength, errorMessage, effect, verdict}
 use Rattle.rules.specs.Table.{records, recordAt, recordBytes, tableNumber, judgementNumber}
 use Rattle.rules.specs.declared.Answer.{Answer}
@@ -21,7 +20,8 @@ use Rattle.rules.proofs.Effects.{length-effect}
 use Rattle.rules.proofs.Lending.{lentRecord, givenBack, lent-is, back-is}
 use Rattle.rules.proofs.Records.{length-records, length-record}
 use Rattle.rules.proofs.Refusals.{still, judged-refused}
-use Rattle.handlers.specs.Does.{Replies, Does}
+use Rattle.locks.specs.Does.{Does}
+use Rattle.replies.specs.Replies.{Replies}
 
 -- ---- the record that is lent and comes back
 

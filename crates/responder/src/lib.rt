@@ -1,7 +1,7 @@
 // A request, answered: the call that a requester's message makes on a table.
 use checks::check_request;
-use handlers::reply::put_error;
 use handlers::serve::serve;
+use replies::put_error;
 use rules::Answer;
 use rules::Judgement;
 use rules::RECORD_BYTES;

@@ -1,12 +1,11 @@
 -- Loops over a table's records: what is left from record k on answers for the whole. Each law is one way on. Assumes nothing.
-use mathlib.Core.Path.{_≡_, refl, sym, ap, _∙_}
-use mathlib.Core.Bool.{Bool, true, false, not, _&&_}
-use mathlib.Core.List.{List, [], _∷_}
-use Prim.Native.Nat.{ℕ, suc, _+_, _/_, _≤_, _<_}
+use mathlib.Core.Path.{_≡_, sym, _∙_}
+use mathlib.Core.Bool.{Bool, true, false, not}
+use mathlib.Core.List.{List}
+use Prim.Native.Nat.{ℕ, _+_, _/_, _≤_, _<_}
 use native.Mathlib.Numerals.{add-one}
 use borrow.Author.Tests.{not-true, not-false}
 use lib.ListN.{length, drop}
-use Rattle.rules.specs.Bytes.{if_then_else_}
 use Rattle.rules.specs.Record.{Rec}
 use Rattle.rules.specs.Table.{records, recordAt, recordBytes, all, names, findFrom}
 use Rattle.rules.specs.declared.Identity.{Identity}

@@ -13,7 +13,7 @@ use Rattle.rules.specs.Identity.{same}
 use Rattle.rules.specs.Record.{Rec}
 use Rattle.rules.specs.Table.{recordBytes, records, recordAt, all, identity, names, namesNot, distinct}
 use Rattle.rules.specs.declared.Identity.{Identity}
-use Rattle.rules.proofs.Bools.{clash, and-left, and-right, and-false}
+use Rattle.rules.proofs.Bools.{clash, and-left, and-right}
 use Rattle.rules.proofs.Records.{records-from, records-end}
 use Rattle.table.specs.Slots.{slot, marked}
 

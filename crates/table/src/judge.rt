@@ -2,7 +2,7 @@
 use crate::find::find_from;
 use crate::find::identity_of_record;
 use crate::find::nothing;
-use crate::record::record_ok;
+use records::record::record_ok;
 use rules::Judgement;
 use rules::MOST_RECORDS;
 use rules::RECORD_BYTES;

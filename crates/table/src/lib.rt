@@ -2,5 +2,3 @@
 pub mod find;
 pub mod identity;
 pub mod judge;
-pub mod lock;
-pub mod record;

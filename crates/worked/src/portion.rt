@@ -1,9 +1,9 @@
 // A portion of a report of 200 bytes.
 use compare::case;
 use compare::record::full_record;
-use report::portion::put_portion;
-use report::portion::report_total;
-use table::record::record_ok;
+use portions::portion::put_portion;
+use portions::portion::report_total;
+use records::record::record_ok;
 use wire::number::num16;
 
 // The lengths that a portion begins with.

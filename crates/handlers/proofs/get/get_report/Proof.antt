@@ -17,7 +17,7 @@ use Rattle.rules.proofs.Messages.{length-message, message-written}
 use Rattle.rules.proofs.Numbers.{length-bytes}
 use Rattle.rules.proofs.Parts.{length-part}
 use Rattle.rules.proofs.Portions.{length-of}
-use Rattle.handlers.specs.Does.{Replies}
+use Rattle.replies.specs.Replies.{Replies}
 use Rattle.handlers.proofs.Lent.{tail-back}
 use Rattle.handlers.proofs.get.get_report.Statement.{statement}
 use Rattle.handlers.proofs.get.get_report.Tie as tie

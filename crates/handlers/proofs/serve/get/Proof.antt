@@ -5,8 +5,8 @@ use Prim.Native.Nat.{ℕ}
 use borrow.Author.Needs.{needs}
 use Rattle.rules.proofs.Serves.{report-room, a-version, a-capabilities, a-report, a-state}
 use Rattle.rules.specs.Record.{Rec}
-use Rattle.rules.specs.Request.{Effect, kindOf, getVersion, getCapabilities, getReport, getState, gets}
-use Rattle.handlers.specs.Does.{Replies}
+use Rattle.rules.specs.Request.{kindOf, getVersion, getCapabilities, getReport, getState, gets}
+use Rattle.replies.specs.Replies.{Replies}
 use Rattle.handlers.proofs.serve.get.Statement.{statement}
 use Rattle.handlers.proofs.serve.get.Tie as tie
 

@@ -7,7 +7,8 @@ use borrow.Author.Needs.{needs}
 use Rattle.rules.proofs.Serves.{lock-room, start-room, illegal, a-lock, a-start, a-stop, another, gets-keeps}
 use Rattle.rules.specs.Record.{Rec, state}
 use Rattle.rules.specs.Request.{Lent, kindOf, legalIn, errorMessage, lockInterface, startInterface, stopInterface, gets, effect}
-use Rattle.handlers.specs.Does.{Replies, Does}
+use Rattle.locks.specs.Does.{Does}
+use Rattle.replies.specs.Replies.{Replies}
 use Rattle.handlers.proofs.serve.serve.Statement.{statement}
 use Rattle.handlers.proofs.serve.serve.Tie as tie
 

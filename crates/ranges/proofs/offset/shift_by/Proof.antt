@@ -1,7 +1,7 @@
 -- `shift_by` meets its contract: the local holds the integers' sum, and each way out is a case of `fitted`. Assumes nothing.
 use mathlib.Core.Path.{_≡_, ap, _∙_, subst, subst⁻¹}
 use mathlib.Core.Bool.{true, false}
-use Prim.Native.Nat.{ℕ, _+_, _≤_, _<_, _^_}
+use Prim.Native.Nat.{_+_, _≤_, _<_, _^_}
 use native.Mathlib.Omega.{arith}
 use mir.Syntax.{w64}
 use mir.Val.{Fits}

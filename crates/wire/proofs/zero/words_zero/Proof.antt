@@ -1,7 +1,7 @@
 -- `words_zero` meets its contract: the flag says whether the words passed are zero. Assumes nothing.
 use mathlib.Core.Path.{_≡_, _∙_}
 use mathlib.Core.Logic.{⊎-elim}
-use Prim.Native.Nat.{_+_, _*_, _≤_, _-_}
+use Prim.Native.Nat.{_*_, _≤_, _-_}
 use borrow.Author.Needs.{needs}
 use Rattle.rules.specs.Bytes.{every, zeroAt}
 use Rattle.rules.proofs.Every.{every-none}

@@ -1,2 +1,0 @@
--- What the handlers promise, over what `rules` says. No rule stands here.
-pub mod Does

@@ -1,0 +1,3 @@
+// Whether a record keeps the rules of document 01.
+pub mod lock;
+pub mod record;

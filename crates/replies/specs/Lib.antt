@@ -1,0 +1,2 @@
+-- What the writers of replies promise, over what `rules` says. No rule stands here.
+pub mod Replies
