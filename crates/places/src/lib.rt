@@ -1,5 +1,5 @@
 // The ranges in a record's eight places, in one pass: their own rules, and whether an offset leaves each of them within the pages. Every
-// call asks this of every record, so it asks by limits and not range by range as `offset::all_stay` does.
+// call asks this of every record, so it asks by limits and not range by range as `ranges::offset::all_stay` does.
 use ranges::range::id_of;
 use ranges::range::least_after;
 use ranges::range::range_from;
