@@ -3,10 +3,10 @@ pub mod record;
 
 use libc::STDOUT_FILENO;
 use rules::Answer;
+use wire::copy::least;
 use wire::same::same_bytes;
 ghost use mathlib.Core.Path.{_≡_};
 ghost use mathlib.Core.Bool.{_&&_};
-ghost use Prim.Native.Nat.{_≤_, min};
 ghost use lib.Dec.{eqb};
 ghost use lib.ListN.{length, take, drop};
 ghost use Rattle.rules.specs.Bytes.{sameBytes};
@@ -83,13 +83,6 @@ pub fn unchanged(name: &[u8], got: &[u8], want: &[u8]) -> bool
         io::write_all(STDOUT_FILENO, b": changed, WRONG\n");
     }
     same
-}
-
-// The lesser of two lengths.
-pub fn least(n: usize, most: usize) -> usize
-    ensures { λ r. ⌜ (r ≡ min n most) × (r ≤ most) ⌝ }
-{
-    if n < most { n } else { most }
 }
 
 // The bytes at the front, as many as the paper has.

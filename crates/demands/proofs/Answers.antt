@@ -22,9 +22,9 @@ use Rattle.rules.specs.declared.Verdict.{Verdict}
 use Rattle.rules.specs.declared.Verdict.the-variants.{Error, Serve}
 use Rattle.rules.proofs.Bools.{and-right}
 use Rattle.rules.proofs.Parts.{length-over}
-use Rattle.demands.specs.Answers.{lines, lowest, Fixed, AnswersFixed}
+use Rattle.rules.proofs.ReplyLengths.{error-short, effect-short}
+use Rattle.demands.specs.Answers.{lines, firstOf, Fixed, AnswersFixed}
 use Rattle.demands.specs.Machine.{bufferOf}
-use Rattle.demands.proofs.ReplyLengths.{error-short, effect-short}
 
 -- a reply at the front leaves the rest
 rest-stays : (m buffer : List ℕ) → drop (length m) (over 0 m buffer) ≡ drop (length m) buffer
@@ -35,7 +35,7 @@ rest-stays m buffer = rw zero-add (drop-at m (drop (length m) buffer) (length m)
 
 module _ (c : Call) (t : List ℕ) where
   abbrev number : ℕ
-  number = lowest (lines c t)
+  number = firstOf (lines c t)
 
   abbrev buffer : List ℕ
   buffer = bufferOf c
@@ -98,7 +98,7 @@ module _ (c : Call) (t : List ℕ) where
 
 -- an error or what the named record gets, in a buffer of 256 bytes or more
 module _ (l : Lent) (t : List ℕ) (room : leastReply ≤ length (l .reply)) (nonce-long : length (l .nonce) ≡ 32) where
-  carried : (v : Verdict) → 0 ≡ lowest (lines (Request l) t) → Fixed (Request l) t (carriedOut v l t)
+  carried : (v : Verdict) → 0 ≡ firstOf (lines (Request l) t) → Fixed (Request l) t (carriedOut v l t)
   carried (Error code datum) =
       replies (Request l) t (errorMessage code datum (l .request)) t (omega (arith, error-short code datum (l .request)))
   carried (Serve k) =
@@ -107,7 +107,7 @@ module _ (l : Lent) (t : List ℕ) (room : leastReply ≤ length (l .reply)) (no
 
 -- the table's lines, then 4, 5 and 6
 asked : (l : Lent) (t : List ℕ) → Fixed (Request l) t (answered l t)
-unfolding answered lowest
+unfolding answered firstOf
 asked l t =
     table-first (Request l) t _ _
     (line-first (Request l) t 4 _ (ltb (length (l .reply)) leastReply) _ (λ p.
@@ -125,7 +125,7 @@ module _ (id class : ℕ) (t : List ℕ) where
   abbrev write : Call
   write = RegisterWrite id class
 
-  written : (f : Found) → (if nothing f then 7 else 0) ≡ lowest (lines write t)
+  written : (f : Found) → (if nothing f then 7 else 0) ≡ firstOf (lines write t)
       → Fixed write t (if not (eqb (lookupNumber f) 0) then refused (lookupNumber f) [] t else changed (writeHits (ruleOf class) (identityOf id)) t)
   written (At k) = counts write t _ _
   written Nothing = refuses write t 7
@@ -134,7 +134,7 @@ module _ (id class : ℕ) (t : List ℕ) where
 
 -- for every call on every table, with no premise
 pub answers : AnswersFixed step
-unfolding lowest registerWritten happened firmwareAsked
+unfolding firstOf registerWritten happened firmwareAsked
 answers (Request l) t = asked l t
 answers (RegisterWrite id class) t = table-first (RegisterWrite id class) t _ _ (written id class t (find (identityOf id) (records t))) refl
 answers (DeviceWide e) t = table-first (DeviceWide e) t _ _ (counts (DeviceWide e) t _ _) refl

@@ -1,19 +1,19 @@
 -- Demand 2, proved of `step`: every request and every event does exactly what 01 calls for. Assumes nothing.
 use mathlib.Core.Path.{_≡_, refl, sym, ap, _∙_}
 use mathlib.Core.Bool.{Bool, true, false, not}
-use mathlib.Core.List.{List, [], _∷_}
-use Prim.Native.Nat.{ℕ, suc, _≤_, _<_}
+use mathlib.Core.List.{List, [], _∷_, map}
+use Prim.Native.Nat.{ℕ, suc, _+_, _≤_, _<_}
 use native.Mathlib.Omega.{arith}
 use borrow.Author.Tests.{eq-eqb, le-leb, le-ltb, lt-leb}
 use lib.Dec.{eqb}
 use lib.ListN.{length, getD, set}
 use Rattle.rules.specs.Bytes.{if_then_else_, byte, num, part, sameBytes}
-use Rattle.rules.specs.Call.{join, Outcome, served, carriedOut, changed, leastReply, leastRequest, answered, happened, firmwareAsked, Request, DeviceWide, FirmwareQuestion, step}
+use Rattle.rules.specs.Call.{join, Outcome, served, carriedOut, changed, leastReply, leastRequest, mostReply, answered, happened, firmwareAsked, Request, DeviceWide, FirmwareQuestion, step}
 use Rattle.rules.specs.Change.{ruleOf, hits, writeHits, moved, differing, lets}
 use Rattle.rules.specs.Identity.{identityAt, identityOf}
 use Rattle.rules.specs.Lock.{supported}
 use Rattle.rules.specs.Record.{Rec, CONFIG_UNLOCKED, CONFIG_LOCKED, state, nonce, offsetOk}
-use Rattle.rules.specs.Report.{reportTotal, portionBytes}
+use Rattle.rules.specs.Report.{mostPortion, reportTotal, portionLength, portionBytes}
 use Rattle.rules.specs.Request.{Lent, Effect, does, fails, message, kindOf, exactLength, legalIn, verdict, capabilities, secure, askedFlags, askedStream, askedOffset, locked, lockInterface, getReport, running, startInterface, cleared, gets, effect}
 use Rattle.rules.specs.Table.{records, recordAt, all, find, tableNumber}
 use Rattle.rules.specs.declared.Event.{Event}
@@ -21,14 +21,19 @@ use Rattle.rules.specs.declared.Found.the-variants.{At, Nothing}
 use Rattle.rules.specs.declared.Identity.{Identity}
 use Rattle.rules.specs.declared.Verdict.{Verdict}
 use Rattle.rules.specs.declared.Verdict.the-variants.{Serve}
-use Rattle.rules.proofs.Changed.{records-after, record-after, known-served, unknown-refused}
+use Rattle.rules.proofs.Accepted.{keeps-rules}
+use Rattle.rules.proofs.Changed.{records-after, known-served, unknown-refused}
 use Rattle.rules.proofs.Checks.{wrong-version, unlisted, wrong-length, known, unknown}
 use Rattle.rules.proofs.Effects.{illegal-stays}
 use Rattle.rules.proofs.Locks.{lock-accepted}
-use Rattle.rules.proofs.Lookup.{all-at}
+use Rattle.rules.proofs.Lookup.{all-at, find-at}
+use Rattle.rules.proofs.Messages.{length-message}
+use Rattle.rules.proofs.Portions.{length-portion}
+use Rattle.rules.proofs.Records.{length-records, length-record}
 use Rattle.rules.proofs.Bools.{clash}
 use Rattle.rules.proofs.Refusals.{past-table}
-use Rattle.demands.specs.Exactly.{Arrives, Reaches, MayLock, Gets, Errs, RequestsExactly, EventsExactly}
+use Rattle.rules.proofs.Values.{reply-small}
+use Rattle.demands.specs.Exactly.{Arrives, Reaches, MayLock, Gets, Errs, RequestsExactly, LongestReply, EventsExactly}
 
 -- ---- requests
 
@@ -189,12 +194,33 @@ requests = record {
   stop = λ l t k on. gets-effect l t k 0x87 on (omega arith) (stop-does l (recordAt t k) (on .kind-is));
 }
 
+-- ---- the longest reply
+
+-- a portion of 128 bytes stands behind the header and two lengths
+longest-reached : (l : Lent) (t : List ℕ) (k : ℕ) → Reaches l t k 0x84 20 → state (recordAt t k) ≡ CONFIG_LOCKED → mostPortion ≤ num (l .request) 18 2
+    → num (l .request) 16 2 + mostPortion ≤ reportTotal (recordAt t k) → step (Request l) t .value ≡ mostReply
+longest-reached l t k on s asks fits =
+    let q = l .request in
+    let r = recordAt t k in
+    let at = num q 16 2 in
+    let asked = num q 18 2 in
+    let within = find-at (identityAt q 4) k (records t) (on .found) .within in
+    let long = length-record t k (omega (arith, length-records t)) in
+    let portion : portionLength (reportTotal r) at asked ≡ mostPortion = omega arith in
+    let payload = length-portion r long (keeps-rules t (on .accepted) k within) at asked (omega arith) in
+    ap (λ (o : Outcome). o .value) (requests .report l t k on s (omega arith))
+    ∙ length-message 0x04 q (omega (arith, on .length-is)) (portionBytes r at asked)
+    ∙ omega (arith, payload, portion)
+
+pub longest : LongestReply step
+longest = record { at-most = reply-small; reached = longest-reached }
+
 -- ---- events
 
 -- an outcome in which the records that p tells are moved
 module _ (p : Rec → Bool) (t : List ℕ) (o : Outcome) (is : o ≡ changed p t) where
-  moves-exactly : (k : ℕ) → recordAt (o .table) k ≡ moved p (recordAt t k)
-  moves-exactly k = ap (λ (x : Outcome). recordAt (x .table) k) is ∙ record-after p t k
+  moves-exactly : o .table ≡ join (map (moved p) (records t))
+  moves-exactly = ap (λ (x : Outcome). x .table) is
 
   counts-exactly : o .value ≡ differing (records t) (records (o .table))
   counts-exactly =

@@ -17,7 +17,7 @@ use Rattle.rules.specs.declared.Found.the-variants.{At, Nothing}
 use Rattle.rules.specs.declared.Identity.{Identity}
 use Rattle.rules.proofs.Bools.{clash}
 use Rattle.rules.proofs.Lookup.{all-at, find-at}
-use Rattle.demands.specs.Machine.{Seen, seen, run, trace, All, none-left, _and_}
+use Rattle.demands.specs.Machine.{Seen, seen, run, trace, Each, none-left, _and_}
 use Rattle.demands.specs.Histories.{Terms, AcceptedLock, ServedStart, Ends, Lasts, RanSince, InRun, unlocked, RunExactlyWhen}
 use Rattle.demands.proofs.Lookups.{place-stays}
 use Rattle.demands.proofs.Turns.{terms, Locked, Runs, live-in, Turn, turn}
@@ -168,10 +168,10 @@ module _ (i : Identity) where
   unfolding trace
   no-first t x xs q = omega (arith, ap length q)
 
-  all-first : {P : Seen → Type 0} {x : Seen} {xs : List Seen} → All P (x ∷ xs) → P x
+  all-first : {P : Seen → Type 0} {x : Seen} {xs : List Seen} → Each P (x ∷ xs) → P x
   all-first (p and a) = p
 
-  all-rest : {P : Seen → Type 0} {x : Seen} {xs : List Seen} → All P (x ∷ xs) → All P xs
+  all-rest : {P : Seen → Type 0} {x : Seen} {xs : List Seen} → Each P (x ∷ xs) → Each P xs
   all-rest (p and a) = a
 
   module _ (k : ℕ) where

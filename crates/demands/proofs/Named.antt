@@ -25,14 +25,11 @@ use Rattle.rules.proofs.Effects.{length-effect}
 use Rattle.rules.proofs.Joined.{records-set}
 use Rattle.rules.proofs.Moved.{length-moved}
 use Rattle.rules.proofs.Records.{length-records, length-record}
+use Rattle.demands.specs.Machine.{leaving}
 use Rattle.demands.specs.Swaps.{Names, asks, writes, NamesNobody, short}
 use Rattle.demands.proofs.Places.{placeOf, place-within, put}
 
 -- ---- local calls
-
--- an outcome with this table
-abbrev pub leaving : Outcome → List ℕ → Outcome
-leaving o t = record { number = o .number; value = o .value; reply = o .reply; table = t }
 
 -- `unknown` where there is no record; else what `there` gives of the one record, which stands for the table. The other records stay.
 abbrev pub placed : Outcome → (Rec → Outcome) → Found → List ℕ → Outcome

@@ -41,10 +41,6 @@ Elsewhere a b = (rs : List Rec) (k : ℕ) → placeOf a rs ≡ At k → placeOf 
 pub elsewhere-sym : (a b : Option Identity) → Elsewhere a b → Elsewhere b a
 elsewhere-sym a b x rs k p q = x rs k q p
 
--- nobody's place is no place
-pub nobody-elsewhere : (b : Option Identity) → Elsewhere none b
-nobody-elsewhere b rs k p q = clash (ap nothing p)
-
 -- no record is for two interfaces
 pub different-elsewhere : (i j : Identity) → same i j ≡ false → Elsewhere (some i) (some j)
 different-elsewhere i j x rs k p q =

@@ -8,18 +8,18 @@ use borrow.Author.Tests.{ne-eqb, eqb-true, eqb-false}
 use lib.Dec.{eqb}
 use lib.ListN.{getD}
 use Rattle.rules.specs.Call.{join, Outcome, answered, registerWritten, happened, firmwareAsked, Call, Request, RegisterWrite, DeviceWide, FirmwareQuestion, step}
+use Rattle.rules.specs.Identity.{same}
 use Rattle.rules.specs.Record.{Rec}
 use Rattle.rules.specs.Table.{records, recordAt, tableNumber}
 use Rattle.rules.specs.declared.Found.{Found}
 use Rattle.rules.specs.declared.Found.the-variants.{At, Nothing}
 use Rattle.rules.specs.declared.Identity.{Identity}
 use Rattle.rules.proofs.Joined.{join-records}
-use Rattle.rules.proofs.Numbers.{Bytes}
-use Rattle.rules.proofs.Stepped.{sent, stays-accepted}
-use Rattle.demands.specs.Machine.{Machine, Sends, Seen, seen, run, trace}
-use Rattle.demands.specs.Swaps.{Apart, different, nobody-first, nobody-second, nobody-both, Swap, Swapped, DifferentInterfacesSwap}
+use Rattle.rules.proofs.Stepped.{stays-accepted}
+use Rattle.demands.specs.Machine.{Machine, leaving, Seen, seen, run, trace}
+use Rattle.demands.specs.Swaps.{Names, Apart, different, nobody-first, nobody-second, Swap, Swapped, DifferentInterfacesSwap}
 use Rattle.demands.proofs.Named.{placed, Local, looks-at, looks-at-nobody, whole-records, becomes, leaves}
-use Rattle.demands.proofs.Places.{placeOf, finds, Elsewhere, elsewhere-sym, nobody-elsewhere, different-elsewhere, put, put-other, put-put}
+use Rattle.demands.proofs.Places.{placeOf, finds, Elsewhere, elsewhere-sym, different-elsewhere, put, put-other, put-put}
 
 -- ---- a call after another that finds another place, on an accepted table
 
@@ -54,13 +54,6 @@ module _ {x y : Option Identity} {c d : Call} (a : Local x c) (b : Local y d) (a
 same-records : (s t : List ℕ) → tableNumber s ≡ 0 → tableNumber t ≡ 0 → records s ≡ records t → s ≡ t
 same-records s t p q e = sym (join-records s (whole-records s p)) ∙ ap join e ∙ join-records t (whole-records t q)
 
--- bytes, said in rules
-bytes : (c : Call) → Sends c → Bytes (sent c)
-bytes (Request l) s = s
-bytes (RegisterWrite id class) s = s
-bytes (DeviceWide e) s = s
-bytes FirmwareQuestion s = s
-
 -- a table that is not accepted stays
 stays : (c : Call) (t : List ℕ) → (tableNumber t ≡ 0 → ⊥) → step c t .table ≡ t
 unfolding answered registerWritten happened firmwareAsked
@@ -69,7 +62,7 @@ stays (RegisterWrite id class) t n = rw (ne-eqb (tableNumber t) 0 n)
 stays (DeviceWide e) t n = rw (ne-eqb (tableNumber t) 0 n)
 stays FirmwareQuestion t n = rw (ne-eqb (tableNumber t) 0 n)
 
-module _ (c d : Call) (c-sends : Sends c) (d-sends : Sends d) (t : List ℕ) where
+module _ (c d : Call) (t : List ℕ) where
   on-refused : (tableNumber t ≡ 0 → ⊥) → Swap step c d t
   on-refused n =
       record {
@@ -81,14 +74,14 @@ module _ (c d : Call) (c-sends : Sends c) (d-sends : Sends d) (t : List ℕ) whe
   module _ {x y : Option Identity} (a : Local x c) (b : Local y d) (apart : Elsewhere x y) where
     on-accepted : tableNumber t ≡ 0 → Swap step c d t
     on-accepted z =
-        let after-c = stays-accepted c t z (bytes c c-sends) in
-        let after-d = stays-accepted d t z (bytes d d-sends) in
+        let after-c = stays-accepted c t z in
+        let after-d = stays-accepted d t z in
         let other = elsewhere-sym x y apart in
         record {
           first-same = given a b apart t z after-d;
           second-same = given b a other t z after-c;
           table-same =
-              same-records _ _ (stays-accepted d _ after-c (bytes d d-sends)) (stays-accepted c _ after-d (bytes c c-sends))
+              same-records _ _ (stays-accepted d _ after-c) (stays-accepted c _ after-d)
               (both b a other t z after-c
               ∙ put-put (becomes a) (becomes b) (placeOf x (records t)) (placeOf y (records t)) (records t) (apart (records t))
               ∙ sym (both a b apart t z after-d));
@@ -101,15 +94,39 @@ module _ (c d : Call) (c-sends : Sends c) (d-sends : Sends d) (t : List ℕ) whe
         by true e = on-accepted (eqb-true (tableNumber t) 0 e)
         by false e = on-refused (eqb-false (tableNumber t) 0 e)
 
-  -- different interfaces are at different places, and nobody is at none
-  swap-here : Apart c d → Swap step c d t
-  swap-here (different i j m n x) =
+  -- different interfaces are at different places,
+  different-swap : (i j : Identity) → Names i c → Names j d → same i j ≡ false → Swap step c d t
+  different-swap i j m n x =
       let a = looks-at m in
       let b = looks-at n in
       local-swap (a .local) (b .local) (λ rs k p q. different-elsewhere i j x rs k (a .at-most rs k p) (b .at-most rs k q))
-  swap-here (nobody-first m j n) = let b = looks-at n in local-swap (looks-at-nobody m) (b .local) (nobody-elsewhere (b .who))
-  swap-here (nobody-second i m n) = let a = looks-at m in local-swap (a .local) (looks-at-nobody n) (elsewhere-sym none (a .who) (nobody-elsewhere (a .who)))
-  swap-here (nobody-both m n) = local-swap (looks-at-nobody m) (looks-at-nobody n) (nobody-elsewhere none)
+
+  -- and a request that names nobody looks at no record and leaves the table, beside any call
+  module _ (a : Local none c) where
+    nobody-accepted : tableNumber t ≡ 0 → Swap step c d t
+    nobody-accepted z =
+        let after = stays-accepted d t z in
+        let leaves-it = ap (λ (o : Outcome). o .table) (a .only t z) in
+        record {
+          first-same = ap (seenOf c) (a .only (step d t .table) after ∙ sym (ap (λ (o : Outcome). leaving o (step d t .table)) (a .only t z)));
+          second-same = ap (seen step d) leaves-it;
+          table-same = ap (λ (s : List ℕ). step d s .table) leaves-it ∙ sym (ap (λ (o : Outcome). o .table) (a .only (step d t .table) after));
+        }
+
+    nobody-swap : Swap step c d t
+    nobody-swap = by (eqb (tableNumber t) 0) refl
+      where
+        by : (accepted : Bool) → eqb (tableNumber t) 0 ≡ accepted → Swap step c d t
+        by true e = nobody-accepted (eqb-true (tableNumber t) 0 e)
+        by false e = on-refused (eqb-false (tableNumber t) 0 e)
+
+turned : {c d : Call} {t : List ℕ} → Swap step d c t → Swap step c d t
+turned s = record { first-same = s .second-same; second-same = s .first-same; table-same = sym (s .table-same) }
+
+swap-here : (c d : Call) (t : List ℕ) → Apart c d → Swap step c d t
+swap-here c d t (different i j m n x) = different-swap c d t i j m n x
+swap-here c d t (nobody-first m) = nobody-swap c d t (looks-at-nobody m)
+swap-here c d t (nobody-second n) = turned (nobody-swap d c t (looks-at-nobody n))
 
 -- ---- anywhere in a history
 
@@ -139,4 +156,8 @@ module _ (next : Machine) (c d : Call) (after : List Call) (here : (t : List ℕ
 
 -- THE SWAP
 pub swap : DifferentInterfacesSwap step
-swap before c d after t c-sends d-sends apart = anywhere step c d after (λ u. swap-here c d c-sends d-sends u apart) before t
+swap before c d after t apart = anywhere step c d after (λ u. swap-here c d u apart) before t
+
+-- the firmware question names no interface
+pub firmware-names-nobody : (i : Identity) → Names i FirmwareQuestion → ⊥
+firmware-names-nobody i = elim [ ]

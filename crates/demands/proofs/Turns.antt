@@ -169,7 +169,7 @@ module _ (i : Identity) (t : List ℕ) (k : ℕ) (found : find i (records t) ≡
     where
       by : (o : Outcome) → Answers l t o → gives (Request l) o
       by o (Answers.refuses n z) = stays refl
-      by o (Answers.errs m) = stays refl
+      by o (Answers.errs code datum) = stays refl
       by o (Answers.carries j on) = go (eqb j k) refl
         where
           go : (b : Bool) → eqb j k ≡ b → gives (Request l) (carriedOut (Serve j) l t)

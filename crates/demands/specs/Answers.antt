@@ -1,5 +1,5 @@
 -- Demand 1: whatever bytes arrive, as request, table or event, the call ends with an answer that document 01 fixes. Callers check nothing
--- first. A refused call returns its number and leaves table and reply buffer as they were.
+-- first. A refused call returns its number and leaves table and reply buffer as they were. (`Reports` has the same of reports.)
 use mathlib.Core.Path.{_≡_}
 use mathlib.Core.Bool.{Bool, not, _&&_}
 use mathlib.Core.List.{List, [], _∷_, _++_}
@@ -38,14 +38,15 @@ lines (RegisterWrite id class) t = tableLines t ++ (line 7 (nothing (find (ident
 lines (DeviceWide e) t = tableLines t
 lines FirmwareQuestion t = tableLines t
 
--- The lowest number that applies wins; 0 where none does: served
-unfoldable pub lowest : List Line → ℕ
-lowest [] = 0
-lowest (x ∷ xs) = if x .applies then x .number else lowest xs
+-- The lowest number that applies wins: the first that does, for the lines of a call stand in the order of their numbers. 0 where none does:
+-- served
+unfoldable pub firstOf : List Line → ℕ
+firstOf [] = 0
+firstOf (x ∷ xs) = if x .applies then x .number else firstOf xs
 
 -- the answer of one call
 pub record Fixed (c : Call) (t : List ℕ) (o : Outcome) : Type 0 where
-  pub number-is : o .number ≡ lowest (lines c t)
+  pub number-is : o .number ≡ firstOf (lines c t)
   -- refused: length, count or answer 0, buffer and table as they were
   pub refused-value : (o .number ≡ 0 → ⊥) → o .value ≡ 0
   pub refused-buffer : (o .number ≡ 0 → ⊥) → o .reply ≡ bufferOf c

@@ -1,17 +1,17 @@
 -- Demand 2: every request gets exactly the reply and next record that 01 calls for; every event moves exactly the records 01 names and
--- returns their number; every lock meeting 01's conditions is accepted; reports survive writing and reading, both ways round.
+-- returns their number; every lock meeting 01's conditions is accepted. (`Reports` has what it says of reports.)
 use mathlib.Core.Path.{_≡_}
 use mathlib.Core.Bool.{true, false}
-use mathlib.Core.List.{List, [], _∷_}
-use Prim.Native.Nat.{ℕ, _≤_, _<_}
+use mathlib.Core.List.{List, [], _∷_, map}
+use Prim.Native.Nat.{ℕ, _+_, _≤_, _<_}
 use lib.ListN.{length, set}
 use Rattle.rules.specs.Bytes.{byte, num, bitClear, part, sameBytes}
-use Rattle.rules.specs.Call.{join, refused, served, Request, RegisterWrite, DeviceWide, FirmwareQuestion}
+use Rattle.rules.specs.Call.{join, refused, served, mostReply, Request, RegisterWrite, DeviceWide, FirmwareQuestion}
 use Rattle.rules.specs.Change.{ruleOf, hits, writeHits, moved, differing, lets}
 use Rattle.rules.specs.Identity.{identityAt, identityOf}
 use Rattle.rules.specs.Lock.{signed, wholePages, supported, stays, shifted}
 use Rattle.rules.specs.Record.{Rec, CONFIG_UNLOCKED, CONFIG_LOCKED, state, rangeCount, rangeOf, nonce, offsetOk}
-use Rattle.rules.specs.Report.{reportTotal, portionBytes}
+use Rattle.rules.specs.Report.{mostPortion, reportTotal, portionBytes}
 use Rattle.rules.specs.Request.{Lent, kindOf, exactLength, legalIn, errorMessage, message, capabilities, askedFlags, askedStream, askedOffset, secure, locked, running, cleared}
 use Rattle.rules.specs.Table.{records, recordAt, find, tableNumber}
 use Rattle.rules.specs.declared.Event.{Event}
@@ -109,15 +109,21 @@ module _ (next : Machine) where
     -- stop gives state 0 and clears the lock fields and nonce
     pub stop : (l : Lent) (t : List ℕ) (k : ℕ) → Reaches l t k 0x87 16 → Gets l t k (message 0x07 (l .request) []) (cleared CONFIG_UNLOCKED (recordAt t k))
 
+  -- the longest reply is 148 bytes: none is longer, and a portion of 128 bytes makes one so long
+  pub record LongestReply : Type 0 where
+    pub at-most : (l : Lent) (t : List ℕ) → next (Request l) t .value ≤ mostReply
+    pub reached : (l : Lent) (t : List ℕ) (k : ℕ) → Reaches l t k 0x84 20 → state (recordAt t k) ≡ CONFIG_LOCKED → mostPortion ≤ num (l .request) 18 2
+        → num (l .request) 16 2 + mostPortion ≤ reportTotal (recordAt t k) → next (Request l) t .value ≡ mostReply
+
   -- ---- events
 
   pub record EventsExactly : Type 0 where
-    -- each record moves exactly when 01 names it, and keeps every byte otherwise
-    pub event-moves : (e : Event) (t : List ℕ) → tableNumber t ≡ 0 → (k : ℕ) → recordAt (next (DeviceWide e) t .table) k ≡ moved (hits e) (recordAt t k)
+    -- the whole table: each record moves exactly when 01 names it, and keeps every byte otherwise; nothing stands before, between or after them
+    pub event-moves : (e : Event) (t : List ℕ) → tableNumber t ≡ 0 → next (DeviceWide e) t .table ≡ join (map (moved (hits e)) (records t))
     -- and the count is the number of records whose state differs before and after
     pub event-counts : (e : Event) (t : List ℕ) → tableNumber t ≡ 0 → next (DeviceWide e) t .value ≡ differing (records t) (records (next (DeviceWide e) t .table))
     pub write-moves : (id class place : ℕ) (t : List ℕ) → tableNumber t ≡ 0 → find (identityOf id) (records t) ≡ At place
-        → (k : ℕ) → recordAt (next (RegisterWrite id class) t .table) k ≡ moved (writeHits (ruleOf class) (identityOf id)) (recordAt t k)
+        → next (RegisterWrite id class) t .table ≡ join (map (moved (writeHits (ruleOf class) (identityOf id))) (records t))
     pub write-counts : (id class place : ℕ) (t : List ℕ) → tableNumber t ≡ 0 → find (identityOf id) (records t) ≡ At place
         → next (RegisterWrite id class) t .value ≡ differing (records t) (records (next (RegisterWrite id class) t .table))
     pub write-unknown : (id class : ℕ) (t : List ℕ) → tableNumber t ≡ 0 → find (identityOf id) (records t) ≡ Nothing → next (RegisterWrite id class) t ≡ refused 7 [] t

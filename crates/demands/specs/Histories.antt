@@ -20,7 +20,7 @@ use Rattle.rules.specs.declared.Event.the-variants.{Multicast, StreamDown, Sess
 use Rattle.rules.specs.declared.Found.the-variants.{At}
 use Rattle.rules.specs.declared.Identity.{Identity}
 use Rattle.rules.specs.declared.Rule.{Rule}
-use Rattle.demands.specs.Machine.{Machine, Seen, replyOf, run, trace, All}
+use Rattle.demands.specs.Machine.{Machine, Seen, replyOf, run, trace, Each}
 
 -- ---- what a lock's own call gave: LOCK_MSIX of its flags, its default stream, and the session of the call
 
@@ -84,7 +84,7 @@ pub data Ends (i : Identity) (on : Terms) (e : Seen) : Type 0 where
   changed : e .number ≡ 0 → sendsToError i on (e .call) ≡ true → Ends i on e
 
 abbrev pub Lasts : Identity → Terms → List Seen → Type 0
-Lasts i on es = All (λ (e : Seen). Ends i on e → ⊥) es
+Lasts i on es = Each (λ (e : Seen). Ends i on e → ⊥) es
 
 -- ---- the demand
 

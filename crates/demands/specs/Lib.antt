@@ -2,6 +2,7 @@
 pub mod Machine
 pub mod Answers
 pub mod Exactly
+pub mod Reports
 pub mod Histories
 pub mod Swaps
 pub mod Wrong

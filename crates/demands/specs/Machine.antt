@@ -1,8 +1,7 @@
 -- A machine, its histories, and what a caller sees of them.
 use mathlib.Core.List.{List, [], _∷_}
-use Prim.Native.Nat.{ℕ, _<_}
+use Prim.Native.Nat.{ℕ}
 use lib.ListN.{take}
-use Rattle.rules.specs.Bytes.{byte}
 use Rattle.rules.specs.Call.{Outcome, Call, Request, RegisterWrite, DeviceWide, FirmwareQuestion}
 
 -- what a call gives on a table: `step` of rules is the right one
@@ -23,9 +22,9 @@ requestOf (RegisterWrite id class) = []
 requestOf (DeviceWide e) = []
 requestOf FirmwareQuestion = []
 
--- Numbers of a list that are bytes. A slice of u8 is such; `rules` reads lists of any numbers.
-abbrev pub Sends : Call → Type 0
-Sends c = (i : ℕ) → byte (requestOf c) i < 256
+-- an outcome over another table
+abbrev pub leaving : Outcome → List ℕ → Outcome
+leaving o t = record { number = o .number; value = o .value; reply = o .reply; table = t }
 
 -- a call with what came back: number, length or count or answer, and the reply buffer
 pub record Seen : Type 0 where
@@ -53,6 +52,6 @@ module _ (next : Machine) where
 
 -- of every element of a list
 infixr 20 _and_
-pub data All {A : Type 0} (P : A → Type 0) : List A → Type 0 where
-  none-left : All P []
-  _and_ : {x : A} {xs : List A} → P x → All P xs → All P (x ∷ xs)
+pub data Each {A : Type 0} (P : A → Type 0) : List A → Type 0 where
+  none-left : Each P []
+  _and_ : {x : A} {xs : List A} → P x → Each P xs → Each P (x ∷ xs)

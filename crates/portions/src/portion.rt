@@ -7,22 +7,17 @@ use rules::place::RANGE_BYTES;
 use rules::report::LEAST_REPORT;
 use rules::report::MOST_PORTION;
 use wire::copy::copy_over;
+use wire::copy::least;
 use wire::number::put16;
 ghost use mathlib.Core.Path.{_≡_};
 ghost use mathlib.Core.Bool.{true};
 ghost use mathlib.Core.List.{_++_};
-ghost use Prim.Native.Nat.{_+_, _≤_, _<_, min};
+ghost use Prim.Native.Nat.{_+_, _≤_, _<_};
 ghost use lib.ListN.{length};
 ghost use Rattle.rules.specs.Bytes.{bytesOf, over};
 ghost use Rattle.rules.specs.Record.{recordOk};
 ghost use Rattle.rules.specs.Report.{mostReport, mostPortion, reportTotal, portionLength, portionBytes};
 ghost use Rattle.rules.specs.Table.{recordBytes};
-
-fn least(a: usize, b: usize) -> usize
-    ensures { λ r. ⌜ r ≡ min a b ⌝ }
-{
-    if a < b { a } else { b }
-}
 
 // The length of a record's report.
 pub fn report_total(r: &[u8]) -> usize

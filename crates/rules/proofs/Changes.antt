@@ -2,10 +2,10 @@
 use mathlib.Core.Path.{_≡_, refl, _∙_}
 use mathlib.Core.Bool.{true}
 use mathlib.Core.List.{List, [], _∷_, _++_}
-use Prim.Native.Nat.{ℕ, zero, suc, _+_, _≤_, _<_}
+use Prim.Native.Nat.{ℕ, zero, suc, _+_, _^_, _≤_, _<_}
 use native.Mathlib.Omega.{arith}
 use lib.ListN.{length}
-use Rattle.rules.specs.Bytes.{byte, num, bytesOf, blank, zeros}
+use Rattle.rules.specs.Bytes.{byte, Bytes, num, bytesOf, blank, zeros}
 use Rattle.rules.specs.Lock.{stored}
 use Rattle.rules.specs.Record.{Rec, RUN, state, held, flags, stream, session, offset, nonce}
 use Rattle.rules.specs.Request.{askedFlags, askedStream, askedOffset, locked, running, cleared}
@@ -13,7 +13,7 @@ use Rattle.rules.specs.Table.{recordBytes}
 use Rattle.rules.specs.declared.Session.{Session}
 use Rattle.rules.proofs.Configured.{Configured}
 use Rattle.rules.proofs.Listed.{same-at}
-use Rattle.rules.proofs.Numbers.{Bytes, length-bytes, num-lt, num-bytes, num-append, num-past, bytes-append}
+use Rattle.rules.proofs.Numbers.{length-bytes, num-bytes, num-append, num-past, bytes-append}
 use Rattle.rules.proofs.Overs.{bytes-of}
 use Rattle.rules.proofs.Rewritten.{Fits, length-rewritten, configured-stays, state-byte, state-num, state-zeros, state-stays, offset-num, offset-zeros, offset-stays, nonce-zeros, nonce-part, bytes-rewritten, lockHead, length-head, cleared-is, running-is, locked-is, cleared-fits, running-fits, locked-fits}
 
@@ -41,7 +41,7 @@ module _ (r : Rec) (long : length r ≡ recordBytes) where
   kept-locked q n s e k h = rw locked-is (configured-stays (locked-fits q n s e) r long k h)
 
 -- what is written is bytes
-bytes-blank : (n : ℕ) → Bytes (blank n)
+pub bytes-blank : (n : ℕ) → Bytes (blank n)
 bytes-blank n i = rw (same-at {A = ℕ} n i 0) (omega arith)
 
 bytes-state : (s : ℕ) → s < 256 → Bytes (s ∷ blank 5)
@@ -158,8 +158,8 @@ module _ (r : Rec) (long : length r ≡ recordBytes) where
     session-locked = rw locked-is (state-byte fits r long 5 (omega (arith, length-head q s)))
 
     -- the offset is the one asked
-    pub offset-locked : Bytes q → offset (locked q n s r) ≡ askedOffset q
-    offset-locked b = rw locked-is (offset-num fits r long (length-bytes 8 (askedOffset q))) ∙ num-bytes 8 (askedOffset q) (num-lt q 20 8 b)
+    pub offset-locked : askedOffset q < 2 ^ 64 → offset (locked q n s r) ≡ askedOffset q
+    offset-locked h = rw locked-is (offset-num fits r long (length-bytes 8 (askedOffset q))) ∙ num-bytes 8 (askedOffset q) (omega arith)
 
     -- the nonce is the one drawn
     pub nonce-locked : nonce (locked q n s r) ≡ n

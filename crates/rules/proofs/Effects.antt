@@ -7,7 +7,7 @@ use native.Mathlib.Omega.{arith}
 use lib.Dec.{eqb, leb}
 use lib.ListN.{length}
 use borrow.Author.Tests.{eqb-true}
-use Rattle.rules.specs.Bytes.{if_then_else_, byte, num, part, sameBytes}
+use Rattle.rules.specs.Bytes.{if_then_else_, byte, Bytes, num, part, sameBytes}
 use Rattle.rules.specs.Lock.{supported}
 use Rattle.rules.specs.Record.{Rec, state, nonce, offsetOk}
 use Rattle.rules.specs.Report.{reportTotal, portionBytes}
@@ -15,7 +15,6 @@ use Rattle.rules.specs.Request.{Lent, kindOf, header, message, legalIn, 
 use Rattle.rules.specs.Table.{recordBytes, identity}
 use Rattle.rules.proofs.Changes.{length-cleared, length-running, length-locked, kept-cleared, kept-running, kept-locked, bytes-cleared, bytes-running, bytes-locked}
 use Rattle.rules.proofs.Configured.{Configured, identity-same}
-use Rattle.rules.proofs.Numbers.{Bytes}
 
 -- ---- what a request does is one of four
 

@@ -5,7 +5,7 @@ use mathlib.Core.List.{List}
 use Prim.Native.Nat.{ℕ, _^_, _≤_, _<_}
 use borrow.Author.Tests.{leb-true}
 use lib.Dec.{eqb, leb}
-use Rattle.rules.specs.Bytes.{byte, num}
+use Rattle.rules.specs.Bytes.{byte, Bytes, num}
 use Rattle.rules.specs.Identity.{same}
 use Rattle.rules.specs.Range.{mostRanges, eightRanges, rangeIn, allPages}
 use Rattle.rules.specs.Record.{Rec, mostInformation, functionId, rangeCount, rangeOf, informationLength, identityOk, stateOk, nonceOk, countOk, interfaceOk, unusedOk, lockOk, rangesOk, informationOk, recordOk}
@@ -13,7 +13,7 @@ use Rattle.rules.specs.Table.{identity}
 use Rattle.rules.specs.declared.Range.{Range}
 use Rattle.rules.proofs.Bools.{and-left, and-right}
 use Rattle.rules.proofs.Identities.{same-equal}
-use Rattle.rules.proofs.Numbers.{Bytes, num-lt}
+use Rattle.rules.proofs.Numbers.{num-lt}
 use Rattle.rules.proofs.Ranges.{pages-read}
 
 pub record Keeps (r : Rec) : Type 0 where

@@ -32,11 +32,14 @@ pub mod KeepsRules
 pub mod Serves
 pub mod Checks
 pub mod ServedCall
+pub mod ReplyLengths
 pub mod Lending
 pub mod Refusals
 pub mod Moved
 pub mod Swept
 pub mod Changed
+pub mod Values
 pub mod Stepped
 pub mod Messages
+pub mod Capabilities
 pub mod Worked

@@ -8,12 +8,12 @@ use native.Mathlib.Numerals.{add-one}
 use native.Mathlib.Omega.{arith}
 use lib.ListN.{length, take, drop, getD, set, replicate, length-append, length-replicate, List·getD-append}
 use lib.Seq.{set-at, getD-at, getD-append-add}
-use Rattle.rules.specs.Bytes.{blank, part, over}
+use Rattle.rules.specs.Bytes.{Bytes, blank, part, over}
 use Rattle.rules.specs.Range.{mostRanges, zeroRange, listed, eightRanges}
 use Rattle.rules.specs.Record.{mostInformation}
 use Rattle.rules.specs.Report.{informationFrom}
 use Rattle.rules.specs.declared.Range.{Range}
-use Rattle.rules.proofs.Numbers.{Bytes, bytes-append, bytes-part}
+use Rattle.rules.proofs.Numbers.{bytes-append, bytes-part}
 use Rattle.rules.proofs.Parts.{lent-part, length-part}
 
 pub length-listed : {A : Type 0} (n : ℕ) (f : ℕ → A) → length (listed n f) ≡ n

@@ -15,16 +15,6 @@ use Rattle.rules.specs.declared.Found.{Found}
 use Rattle.rules.specs.declared.Found.the-variants.{At, Nothing}
 use Rattle.rules.proofs.Bools.{clash, and-left, and-right}
 
-pub nothing-all : (k : ℕ) (who : Identity) (rs : List Rec) → nothing (findFrom k who rs) ≡ all (namesNot who) rs
-unfolding findFrom all
-nothing-all k who [] = refl
-nothing-all k who (r ∷ rs) = by (names who r) (nothing-all (suc k) who rs)
-  where
-    by : (t : Bool) → nothing (findFrom (suc k) who rs) ≡ all (namesNot who) rs
-        → nothing (if t then At k else findFrom (suc k) who rs) ≡ (not t && all (namesNot who) rs)
-    by true ih = refl
-    by false ih = ih
-
 -- a test of every record, at one of them
 pub all-at : (p : Rec → Bool) (rs : List Rec) (k : ℕ) → all p rs ≡ true → k < length rs → p (getD rs k []) ≡ true
 unfolding all
@@ -61,13 +51,24 @@ module _ (who : Identity) where
           let (j, (z, is)) = ih q in
           (suc j, (omega arith, record { within = omega arith; here = is .here; none-before = none-before-next r rs j p (is .none-before) }))
 
-  -- a lookup that finds a place is right,
+  -- a lookup that finds a place is right
   pub find-at : (k : ℕ) (rs : List Rec) → find who rs ≡ At k → Is who rs k
   find-at k rs e =
       let (j, (z, is)) = found-from 0 k rs e in
       let same-place : j ≡ k = omega arith in
       rw same-place at is
 
-  -- and one that finds nothing
-  pub find-nothing : (rs : List Rec) → find who rs ≡ Nothing → (k : ℕ) → k < length rs → names who (getD rs k []) ≡ false
-  find-nothing rs e k h = not-true _ (all-at (namesNot who) rs k (sym (nothing-all 0 who rs) ∙ ap nothing e) h)
+-- a lookup finds nothing where no record is for the interface,
+pub nothing-all : (k : ℕ) (who : Identity) (rs : List Rec) → nothing (findFrom k who rs) ≡ all (namesNot who) rs
+unfolding findFrom all
+nothing-all k who [] = refl
+nothing-all k who (r ∷ rs) = by (names who r) (nothing-all (suc k) who rs)
+  where
+    by : (t : Bool) → nothing (findFrom (suc k) who rs) ≡ all (namesNot who) rs
+        → nothing (if t then At k else findFrom (suc k) who rs) ≡ (not t && all (namesNot who) rs)
+    by true ih = refl
+    by false ih = ih
+
+-- so one that finds nothing is right
+pub find-nothing : (who : Identity) (rs : List Rec) → find who rs ≡ Nothing → (k : ℕ) → k < length rs → names who (getD rs k []) ≡ false
+find-nothing who rs e k h = not-true _ (all-at (namesNot who) rs k (sym (nothing-all 0 who rs) ∙ ap nothing e) h)

@@ -7,12 +7,8 @@ use native.Mathlib.Numerals.{add-one}
 use native.Mathlib.Omega.{arith}
 use lib.ListN.{length, drop, take, length-drop, List·getD-append}
 use lib.Seq.{getD-take, getD-drop, drop-cons, getD-append-add, take-append-le, drop-append-le}
-use Rattle.rules.specs.Bytes.{byte, num, bytesOf, part, over}
+use Rattle.rules.specs.Bytes.{byte, Bytes, num, bytesOf, part, over}
 use Rattle.rules.proofs.Parts.{over-next, part-over, over-part}
-
--- every element is a byte
-abbrev pub Bytes : List ℕ → Type 0
-Bytes s = (i : ℕ) → byte s i < 256
 
 power : (m x : ℕ) → 256 ^ suc m * x ≡ 256 * (256 ^ m * x)
 power m x = rw (pow-succ', mul-assoc)
@@ -88,6 +84,11 @@ num-bytes zero x h = omega arith
 num-bytes (suc n) x h =
     let q = power n 1 in
     omega (arith, num-tail (x % 256) (bytesOf n (x / 256)) 0 n, num-bytes n (x / 256) (omega arith))
+
+-- Requester ID 0100h is the bytes 00 01.
+pub requester-0100h : (bytesOf 2 0x0100 ≡ 0x00 ∷ 0x01 ∷ []) × (num (0x00 ∷ 0x01 ∷ []) 0 2 ≡ 0x0100)
+unfolding num bytesOf
+requester-0100h = (refl, refl)
 
 -- a number read and written
 pub bytes-num : (s : List ℕ) (at n : ℕ) → Bytes s → at + n ≤ length s → bytesOf n (num s at n) ≡ part s at n

@@ -7,9 +7,9 @@ use Prim.Native.Nat.{ℕ, zero, suc, _+_, _-_, _/_, _≤_, _<_}
 use native.Mathlib.Omega.{arith}
 use lib.ListN.{length, take, drop, length-append, List·getD-append}
 use lib.Seq.{getD-take, getD-drop, getD-append-add, length-take-le}
-use Rattle.rules.specs.Bytes.{byte, num, bytesOf, part, over, zeroAt, zeros}
+use Rattle.rules.specs.Bytes.{byte, Bytes, num, bytesOf, part, over, zeroAt, zeros}
 use Rattle.rules.proofs.Every.{every-same, every-true}
-use Rattle.rules.proofs.Numbers.{Bytes, bytes-append, bytes-part}
+use Rattle.rules.proofs.Numbers.{bytes-append, bytes-part}
 
 -- ---- one byte
 

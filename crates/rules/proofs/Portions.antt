@@ -15,9 +15,13 @@ use Rattle.rules.specs.declared.ReportFields.{ReportFields}
 use Rattle.rules.proofs.Kept.{count-most, information-most}
 use Rattle.rules.proofs.Listed.{length-information}
 use Rattle.rules.proofs.Numbers.{length-bytes, part-append}
-use Rattle.rules.proofs.Parts.{lent-part}
+use Rattle.rules.proofs.Parts.{lent-part, length-part}
 use Rattle.rules.proofs.ReadBack.{length-report}
 use Rattle.rules.proofs.Written.{next-piece}
+
+-- LENGTH 0 gives portion 0, and all from OFFSET on remains
+pub nothing-asked : (total at : ℕ) → (portionLength total at 0 ≡ 0) × (remainderLength total at 0 ≡ total - at)
+nothing-asked total at = (omega arith, omega arith)
 
 module _ (r : Rec) (long : length r ≡ recordBytes) (ok : recordOk r ≡ true) where
   -- the whole fits
@@ -32,6 +36,13 @@ module _ (r : Rec) (long : length r ≡ recordBytes) (ok : recordOk r ≡ true) 
       let l = information-most r ok in
       let i = length-information r 204 (informationLength r) l (omega arith) in
       length-report (reportOf r) (omega arith)
+
+  -- and so does a portion's reply
+  pub length-portion : (at asked : ℕ) → at ≤ reportTotal r → length (portionBytes r at asked) ≡ 4 + portionLength (reportTotal r) at asked
+  unfolding portionBytes
+  length-portion at asked h =
+      let n = portionLength (reportTotal r) at asked in
+      rw (length-append, length-append, length-bytes 2 n, length-bytes 2 (remainderLength (reportTotal r) at asked), length-part (reportBytes (reportOf r)) at n (omega (arith, length-of)))
 
   -- a portion of the whole, at the front of a buffer of zeros, is a portion of the report
   cut-portion : (whole : List ℕ) (at p : ℕ) → whole ≡ over 0 (reportBytes (reportOf r)) (blank mostReport) → at + p ≤ reportTotal r

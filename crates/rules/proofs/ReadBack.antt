@@ -13,36 +13,14 @@ use borrow.Author.Tests.{ltb-false, le-ltb}
 use Rattle.rules.specs.Bytes.{if_then_else_, num, bytesOf, blank, part, every, zeros}
 use Rattle.rules.specs.Range.{mostRanges, rangeBytes, listed, eightRanges, rangeFrom, bytesOfRange}
 use Rattle.rules.specs.Record.{mostInformation}
-use Rattle.rules.specs.Report.{leastReport, mostReport, totalOf, informationFrom, bytesOfRanges, fieldRange, headOf, reportBytes, contentNumber, readCount, readRange, lengthPlace, readLength, sizeNumber, readNumber, readFields, normal, writeNumber}
+use Rattle.rules.specs.Report.{leastReport, mostReport, totalOf, informationFrom, bytesOfRanges, fieldRange, headOf, reportBytes, contentNumber, readCount, readRange, lengthPlace, readLength, sizeNumber, readNumber, readFields, TypedRange, Typed, normal, writeNumber}
 use Rattle.rules.specs.declared.Range.{Range}
 use Rattle.rules.specs.declared.ReportFields.{ReportFields}
 use Rattle.rules.proofs.Listed.{listed-same}
-use Rattle.rules.proofs.Numbers.{Bytes, length-bytes, num-append, num-past, num-last}
+use Rattle.rules.proofs.Numbers.{length-bytes, num-append, num-past, num-last}
 use Rattle.rules.proofs.Sizes.{content-same}
 use Rattle.rules.proofs.Writes.{writer-accepts}
 use Rattle.rules.proofs.Written.{length-range, length-ranges, length-head}
-
--- ---- fields that fit their widths
-
--- a range's numbers fit
-pub record TypedRange (x : Range) : Type 0 where
-  pub first-fits : x .first < 2 ^ 64
-  pub pages-fit : x .pages < 2 ^ 32
-  pub attributes-fit : x .attributes < 2 ^ 16
-  pub id-fits : x .id < 2 ^ 16
-
--- and all fields do, with eight ranges and 52 bytes of information
-pub record Typed (f : ReportFields) : Type 0 where
-  pub info-fits : f .info < 2 ^ 16
-  pub msix-fits : f .msix < 2 ^ 16
-  pub lnr-fits : f .lnr < 2 ^ 16
-  pub tph-fits : f .tph < 2 ^ 32
-  pub n-fits : f .n < 2 ^ 32
-  pub l-fits : f .l < 2 ^ 32
-  pub ranges-typed : (k : ℕ) → TypedRange (fieldRange f k)
-  pub ranges-length : length (f .ranges) ≡ mostRanges
-  pub information-length : length (f .information) ≡ mostInformation
-  pub information-typed : Bytes (f .information)
 
 -- ---- reading what was put together
 

@@ -12,11 +12,11 @@ use lib.Signed.{quotZ}
 use lib.ListN.{length, take, drop, getD, replicate, length-append, length-replicate, List·getD-append}
 use lib.Seq.{getD-append-add, getD-drop, getD-at}
 use borrow.Author.Tests.{leb-true, le-leb, ltb-true, ltb-false, le-ltb, eqb-true, eq-eqb}
-use Rattle.rules.specs.Bytes.{if_then_else_, byte, bit, bits, bitClear, blank, part, every}
+use Rattle.rules.specs.Bytes.{if_then_else_, byte, Bytes, bits, bit, bitClear, blank, part, every}
 use Rattle.rules.specs.Lock.{contains, signed, pageBytes, wholePages, fitted, shifted, stays, allStay}
 use Rattle.rules.specs.Range.{mostRanges, rangeBytes, eightRanges, rangeIn, pagesEnd, zeroRange, pagesOk, attributesOk}
 use Rattle.rules.specs.Record.{Rec, state, flags, lockMsix, rangeCount, interfaceInfo, msixControl, lnrControl, tphControl, offset, mostInformation, rangesPlace, rangeOf, informationLength, flagsOk, offsetOk, lockOk, informationOk, recordOk}
-use Rattle.rules.specs.Report.{mostReport, informationFrom, fieldRange, reportBytes, contentNumber, readNumber, writeNumber, pageOf, shownAttributes, shownRange, reportedRange, reportOf}
+use Rattle.rules.specs.Report.{mostReport, informationFrom, fieldRange, reportBytes, contentNumber, readNumber, writeNumber, pageOf, shownAttributes, shownRange, reportedRange, reportOf, TypedRange, Typed}
 use Rattle.rules.specs.Table.{recordBytes}
 use Rattle.rules.specs.declared.Range.{Range}
 use Rattle.rules.specs.declared.ReportFields.{ReportFields}
@@ -27,9 +27,9 @@ use Rattle.rules.proofs.Bools.{clash, and-left, and-right}
 use Rattle.rules.proofs.Every.{every-at, every-true}
 use Rattle.rules.proofs.Kept.{keeps, count-most, information-most}
 use Rattle.rules.proofs.Listed.{listed-same, eight-at, eight-past, length-eight, bytes-information, length-information}
-use Rattle.rules.proofs.Numbers.{Bytes, num-lt}
+use Rattle.rules.proofs.Numbers.{num-lt}
 use Rattle.rules.proofs.Ranges.{range-read, pages-ok, attributes-ok, ids-ok}
-use Rattle.rules.proofs.ReadBack.{TypedRange, Typed, read-written}
+use Rattle.rules.proofs.ReadBack.{read-written}
 use Rattle.rules.proofs.Sizes.{content-same}
 
 -- ---- a shifted page
@@ -59,13 +59,13 @@ abbrev moved : ℤ → Range → ℤ
 moved o x = pos (x .first) +ℤ quotZ o (pos pageBytes)
 
 -- the same of a range's first page moved by an offset
-shifted-most : (o : ℤ) (x : Range) → pageOf (shifted o x) ≤ pagesEnd
-unfolding shifted
-shifted-most o x = page-most (moved o x) (x .pages)
-
 shifted-stays : (o : ℤ) (x : Range) → stays (shifted o x) ≡ true → Stayed (moved o x) (x .pages) (shifted o x)
 unfolding shifted
 shifted-stays o x e = page-stays (moved o x) (x .pages) e
+
+shifted-most : (o : ℤ) (x : Range) → pageOf (shifted o x) ≤ pagesEnd
+unfolding shifted
+shifted-most o x = page-most (moved o x) (x .pages)
 
 -- ---- what is shown
 

@@ -6,14 +6,14 @@ use mathlib.Core.Logic.{_⊎_, inl, inr}
 use Prim.Native.Nat.{ℕ, _+_, _≤_, _<_}
 use native.Mathlib.Omega.{arith}
 use lib.ListN.{length, length-append}
-use Rattle.rules.specs.Bytes.{byte, num, bytesOf, blank, part, over, zeros}
+use Rattle.rules.specs.Bytes.{byte, Bytes, num, bytesOf, blank, part, over, zeros}
 use Rattle.rules.specs.Lock.{stored}
 use Rattle.rules.specs.Record.{Rec, CONFIG_LOCKED, RUN}
 use Rattle.rules.specs.Request.{askedFlags, askedStream, askedOffset, locked, running, cleared}
 use Rattle.rules.specs.Table.{recordBytes}
 use Rattle.rules.specs.declared.Session.{Session}
 use Rattle.rules.proofs.Configured.{Configured}
-use Rattle.rules.proofs.Numbers.{Bytes, length-bytes}
+use Rattle.rules.proofs.Numbers.{length-bytes}
 use Rattle.rules.proofs.Overs.{over-below, over-beside, over-within, num-over, num-within, zeros-over, zeros-within, bytes-over}
 use Rattle.rules.proofs.Parts.{length-over, over-nothing, part-over}
 

@@ -11,7 +11,7 @@ use lib.Seq.{set-getD}
 use Rattle.rules.specs.Bytes.{if_then_else_, byte, over}
 use Rattle.rules.specs.Identity.{identityAt}
 use Rattle.rules.specs.Record.{Rec}
-use Rattle.rules.specs.Request.{Lent, Effect, header, message, effect, verdict}
+use Rattle.rules.specs.Request.{Lent, Effect, header, message, errorMessage, effect, verdict}
 use Rattle.rules.specs.Table.{records, recordAt, recordBytes, identity, find, tableNumber}
 use Rattle.rules.specs.Call.{join, Outcome, refused, served, carriedOut, leastReply, leastRequest, answered}
 use Rattle.rules.specs.declared.Found.the-variants.{At}
@@ -25,7 +25,6 @@ use Rattle.rules.proofs.Effects.{Becomes, effect-becomes, length-effect
 use Rattle.rules.proofs.Joined.{join-records, records-set}
 use Rattle.rules.proofs.KeepsRules.{effect-keeps}
 use Rattle.rules.proofs.Lookup.{find-at}
-use Rattle.rules.proofs.Numbers.{Bytes}
 use Rattle.rules.proofs.Records.{length-records, length-record}
 use Rattle.rules.proofs.StaysAccepted.{set-accepted, other-stays, named-is}
 
@@ -41,7 +40,7 @@ pub record OnRecord (l : Lent) (t : List ℕ) (k : ℕ) : Type 0 where
 -- refused with a number, an error, or carried out
 pub data Answers (l : Lent) (t : List ℕ) : Outcome → Type 0 where
   refuses : (n : ℕ) → (n ≡ 0 → ⊥) → Answers l t (refused n (l .reply) t)
-  errs : (m : List ℕ) → Answers l t (served m l t)
+  errs : (code datum : ℕ) → Answers l t (served (errorMessage code datum (l .request)) l t)
   carries : (k : ℕ) → OnRecord l t k → Answers l t (carriedOut (Serve k) l t)
 
 pub answered-is : (l : Lent) (t : List ℕ) → Answers l t (answered l t)
@@ -57,7 +56,7 @@ answered-is l t =
     go true p true c d q v e = refuses 4 (λ z. omega arith)
     go true p false true d q v e = refuses 5 (λ z. omega arith)
     go true p false false false q v e = refuses 6 (λ z. omega arith)
-    go true p false false true q (Error code datum) e = errs _
+    go true p false false true q (Error code datum) e = errs code datum
     go true p false false true q (Serve k) e =
         carries k (record {
           accepted = eqb-true (tableNumber t) 0 p;
@@ -92,9 +91,9 @@ module _ (l : Lent) (t : List ℕ) (k : ℕ) (on : OnRecord l t k) where
   long-after = length-effect l r long (on .nonce-long)
 
   -- the table afterwards
-  accepted-after : Bytes (l .request) → tableNumber after ≡ 0
-  accepted-after b =
-      let ok = effect-keeps l r long b (on .nonce-long) (keeps-rules t (on .accepted) k in-records) in
+  accepted-after : tableNumber after ≡ 0
+  accepted-after =
+      let ok = effect-keeps l r long (on .nonce-long) (keeps-rules t (on .accepted) k in-records) in
       set-accepted t k (effect l r .rec) (on .accepted) in-records long-after ok (same-identity l r long (on .nonce-long))
 
   pub other-after : (j : ℕ) → (j ≡ k → ⊥) → recordAt after j ≡ recordAt t j
@@ -134,17 +133,17 @@ module _ (l : Lent) (t : List ℕ) where
     where
       by : (o : Outcome) → Answers l t o → (o .number ≡ 0 → ⊥) → (o .reply ≡ l .reply) × (o .table ≡ t) × (o .value ≡ 0)
       by o (refuses x z) n = (refl, refl, refl)
-      by o (errs m) n = absurd (n refl)
+      by o (errs code datum) n = absurd (n refl)
       by o (carries k on) n = absurd (n refl)
 
   -- an accepted table stays accepted
-  pub stays-accepted : tableNumber t ≡ 0 → Bytes (l .request) → tableNumber (answered l t .table) ≡ 0
-  stays-accepted accepted b = by (answered l t) (answered-is l t)
+  pub stays-accepted : tableNumber t ≡ 0 → tableNumber (answered l t .table) ≡ 0
+  stays-accepted accepted = by (answered l t) (answered-is l t)
     where
       by : (o : Outcome) → Answers l t o → tableNumber (o .table) ≡ 0
       by o (refuses n z) = accepted
-      by o (errs m) = accepted
-      by o (carries k on) = accepted-after l t k on b
+      by o (errs code datum) = accepted
+      by o (carries k on) = accepted-after l t k on
 
   -- only the named record can change
   pub only-named : (j : ℕ) → (find (identityAt (l .request) 4) (records t) ≡ At j → ⊥) → recordAt (answered l t .table) j ≡ recordAt t j
@@ -152,7 +151,7 @@ module _ (l : Lent) (t : List ℕ) where
     where
       by : (o : Outcome) → Answers l t o → recordAt (o .table) j ≡ recordAt t j
       by o (refuses n z) = refl
-      by o (errs m) = refl
+      by o (errs code datum) = refl
       by o (carries k on) = other-after l t k on j (λ e. n (on .found ∙ ap At (sym e)))
 
   -- no record comes or goes
@@ -161,7 +160,7 @@ module _ (l : Lent) (t : List ℕ) where
     where
       by : (o : Outcome) → Answers l t o → length (records (o .table)) ≡ length (records t)
       by o (refuses n z) = refl
-      by o (errs m) = refl
+      by o (errs code datum) = refl
       by o (carries k on) = count-after l t k on
 
   -- no configuration changes, in any record: identity, ranges, information
@@ -170,7 +169,7 @@ module _ (l : Lent) (t : List ℕ) where
     where
       by : (o : Outcome) → Answers l t o → byte (recordAt (o .table) j) k ≡ byte (recordAt t j) k
       by o (refuses n z) = refl
-      by o (errs m) = refl
+      by o (errs code datum) = refl
       by o (carries i on) = kept-after l t i on j k c
 
   pub identity-stays : (j : ℕ) → identity (recordAt (answered l t .table) j) ≡ identity (recordAt t j)
@@ -182,7 +181,7 @@ module _ (l : Lent) (t : List ℕ) where
     where
       by : (o : Outcome) → Answers l t o → byte (o .reply) 1 ≡ 0x7f → o .table ≡ t
       by o (refuses n z) h = refl
-      by o (errs m) h = refl
+      by o (errs code datum) h = refl
       by o (carries k on) h =
           let r = recordAt t k in
           same-after l t k on (error-replied l r (l .reply) (effect l r) (effect-becomes l r) h)

@@ -13,7 +13,6 @@ use Rattle.rules.specs.Identity.{identityOf}
 use Rattle.rules.specs.Table.{records, recordAt, identity, find, lookupNumber, tableNumber}
 use Rattle.rules.proofs.Changed.{kept-after, count-stays, accepted-after}
 use Rattle.rules.proofs.Configured.{Configured, identity-same}
-use Rattle.rules.proofs.Numbers.{Bytes}
 use Rattle.rules.proofs.ServedCall as request
 
 -- what holds of the table as it was, and of one that is accepted after a change, holds after every call but a request
@@ -35,22 +34,15 @@ module _ (P : List ℕ → Type 0) (t : List ℕ) (was : P t) where
       by true accepted = f accepted
       by false accepted = was
 
--- the bytes of a request
-abbrev pub sent : Call → List ℕ
-sent (Request l) = l .request
-sent (RegisterWrite id class) = []
-sent (DeviceWide e) = []
-sent FirmwareQuestion = []
-
 -- an accepted table stays accepted
-pub stays-accepted : (c : Call) (t : List ℕ) → tableNumber t ≡ 0 → Bytes (sent c) → tableNumber (step c t .table) ≡ 0
+pub stays-accepted : (c : Call) (t : List ℕ) → tableNumber t ≡ 0 → tableNumber (step c t .table) ≡ 0
 unfolding happened firmwareAsked
-stays-accepted (Request l) t accepted b = request.stays-accepted l t accepted b
-stays-accepted (RegisterWrite id class) t accepted b =
+stays-accepted (Request l) t accepted = request.stays-accepted l t accepted
+stays-accepted (RegisterWrite id class) t accepted =
     after-write (λ (s : List ℕ). tableNumber s ≡ 0) t accepted id class (accepted-after (writeHits (ruleOf class) (identityOf id)) t)
-stays-accepted (DeviceWide e) t accepted b =
+stays-accepted (DeviceWide e) t accepted =
     if-accepted (λ (s : List ℕ). tableNumber s ≡ 0) t accepted (changed (hits e) t) (accepted-after (hits e) t)
-stays-accepted FirmwareQuestion t accepted b = if-accepted (λ (s : List ℕ). tableNumber s ≡ 0) t accepted _ (λ a. a)
+stays-accepted FirmwareQuestion t accepted = if-accepted (λ (s : List ℕ). tableNumber s ≡ 0) t accepted _ (λ a. a)
 
 -- no configuration changes, in any record: identity, ranges, information
 pub configuration-stays : (c : Call) (t : List ℕ) (j k : ℕ) → Configured k → byte (recordAt (step c t .table) j) k ≡ byte (recordAt t j) k

@@ -9,13 +9,13 @@ use lib.Dec.{eqb}
 use lib.ListN.{length}
 use Rattle.rules.specs.Bytes.{num, bytesOf, blank, part, over, every, zeroAt, zeros}
 use Rattle.rules.specs.Lock.{shifted}
-use Rattle.rules.specs.Range.{neverFall}
+use Rattle.rules.specs.Range.{listed, eightRanges, neverFall}
 use Rattle.rules.specs.Record.{Rec, state, held, offsetOk, lockOk, recordOk}
-use Rattle.rules.specs.Report.{sizeNumber, contentNumber, readNumber, readFields}
-use Rattle.rules.specs.Request.{Lent, kindOf, header, message, errorMessage, legalIn, does, fails, cleared, verdict, effect}
+use Rattle.rules.specs.Report.{sizeNumber, contentNumber, readNumber, readFields, handedBack, reportOf}
+use Rattle.rules.specs.Request.{Lent, kindOf, header, message, errorMessage, legalIn, does, fails, locked, lockInterface, cleared, verdict, effect}
 use Rattle.rules.specs.Table.{records, recordBytes, tableNumber}
 use Rattle.rules.specs.Call.{leastReply, leastRequest, served, answered}
-use Rattle.rules.specs.Worked.{All, examples, oneRange, otherVersion, versionMismatch}
+use Rattle.rules.specs.Worked.{Hold, examples, oneRange, otherVersion, versionMismatch}
 use Rattle.rules.specs.declared.Verdict.the-variants.{Error}
 use Rattle.rules.proofs.Bools.{and-left, and-right}
 use Rattle.rules.proofs.Kept.{keeps}
@@ -71,6 +71,6 @@ start-running l r k z = rw (k, z)
 
 -- ---- all of them
 
-pub worked : All examples
-unfolding num bytesOf over every zeros shifted offsetOk neverFall sizeNumber contentNumber readNumber readFields oneRange
+pub worked : Hold examples
+unfolding num bytesOf over every zeros shifted offsetOk legalIn lockInterface effect locked listed eightRanges reportOf neverFall sizeNumber contentNumber readNumber readFields handedBack oneRange
 worked = (refl, (refl, (refl, (refl, (refl, (refl, (refl, (refl, (refl, (refl, (mismatch-answered, (stop-unlocked, (start-running, tt)))))))))))))

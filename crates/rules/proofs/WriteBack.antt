@@ -8,14 +8,14 @@ use native.Mathlib.Omega.{arith}
 use lib.ListN.{length, take, length-replicate, getD-replicate}
 use lib.Seq.{take-at, getD-take, getD-drop, ext-getD}
 use borrow.Author.Tests.{eqb-true, le-ltb}
-use Rattle.rules.specs.Bytes.{byte, num, blank, part, every, zeroAt, zeros}
+use Rattle.rules.specs.Bytes.{byte, Bytes, num, blank, part, every, zeroAt, zeros}
 use Rattle.rules.specs.Range.{mostRanges, rangeBytes, rangeFrom, rangesFrom, bytesOfRange}
 use Rattle.rules.specs.Record.{mostInformation}
 use Rattle.rules.specs.Report.{mostReport, informationFrom, bytesOfRanges, fieldRange, headOf, reportBytes, readCount, readRange, lengthPlace, readLength, readNumber, readFields, writeNumber, writtenLength}
 use Rattle.rules.specs.declared.Range.{Range}
 use Rattle.rules.proofs.Every.{every-at}
 use Rattle.rules.proofs.Parts.{length-part, part-join, part-all}
-use Rattle.rules.proofs.Numbers.{Bytes, bytes-num}
+use Rattle.rules.proofs.Numbers.{bytes-num}
 use Rattle.rules.proofs.Listed.{eight-at}
 use Rattle.rules.proofs.Sizes.{Sized, read-accepted, content-same}
 

@@ -1,7 +1,7 @@
 -- Document 01, "Byte order, said once": every field wider than a byte, in messages, reports and table, is low byte first.
 use mathlib.Core.Bool.{Bool, true, false, _&&_}
 use mathlib.Core.List.{List, [], _∷_, _++_}
-use Prim.Native.Nat.{ℕ, zero, suc, _+_, _-_, _*_, _/_, _%_, _^_}
+use Prim.Native.Nat.{ℕ, zero, suc, _+_, _-_, _*_, _/_, _%_, _^_, _<_}
 use lib.Dec.{eqb}
 use lib.ListN.{length, take, drop, getD, replicate}
 
@@ -16,6 +16,10 @@ if false then a else b = b
 -- the byte at a place
 abbrev pub byte : List ℕ → ℕ → ℕ
 byte s at = getD s at 0
+
+-- every element is a byte, as in a slice of u8. Definitions read lists of any numbers, so that a statement asks this where it needs it.
+abbrev pub Bytes : List ℕ → Type 0
+Bytes s = (i : ℕ) → byte s i < 256
 
 -- the number in the n bytes from a place on, low byte first
 unfoldable pub num : List ℕ → ℕ → ℕ → ℕ

@@ -81,6 +81,10 @@ leastReply = 256
 abbrev pub leastRequest : ℕ
 leastRequest = 16
 
+-- the longest reply is 148 bytes
+abbrev pub mostReply : ℕ
+mostReply = 148
+
 -- 4 reply buffer under 256 bytes; 5 request under 16 bytes; 6 stream map or nonce bytes not 32 long; else 0, served
 unfoldable pub answered : Lent → List ℕ → Outcome
 answered l t =

@@ -1,11 +1,12 @@
 -- Document 01, "Report" and "Report reader".
+use mathlib.Core.Path.{_≡_}
 use mathlib.Core.Bool.{Bool, true, false, not, _&&_, _||_}
 use mathlib.Core.List.{List, [], _∷_, _++_}
-use Prim.Native.Nat.{ℕ, zero, suc, _+_, _-_, _*_, _/_, min}
+use Prim.Native.Nat.{ℕ, zero, suc, _+_, _-_, _*_, _/_, _^_, _<_, min}
 use lib.Dec.{eqb, leb, ltb}
 use lib.IntN.{ℤ}
 use lib.ListN.{length, take, replicate}
-use Rattle.rules.specs.Bytes.{if_then_else_, num, bytesOf, bit, bits, bitSet, blank, part, over, zeros}
+use Rattle.rules.specs.Bytes.{if_then_else_, Bytes, num, bytesOf, bit, bits, bitSet, blank, part, over, zeros}
 use Rattle.rules.specs.Lock.{signed, shifted}
 use Rattle.rules.specs.Range.{mostRanges, rangeBytes, rangesFrom, bytesOfRange, zeroRange, eightRanges, rangeIn, allPages, allAttributes, neverFall, idsOf}
 use Rattle.rules.specs.Record.{Rec, mostInformation, noFwUpdate, lockMsix, interfaceInfo, msixControl, lnrControl, tphControl, offset, rangeCount, rangeOf, informationLength}
@@ -163,6 +164,26 @@ writtenLength f output = if eqb (writeNumber f output) 0 then totalOf (f .n) (f 
 
 unfoldable pub written : ReportFields → List ℕ → List ℕ
 written f output = if eqb (writeNumber f (length output)) 0 then over 0 (reportBytes f) output else output
+
+-- Fields as the code's types hold them: a range's numbers fit their widths,
+pub record TypedRange (x : Range) : Type 0 where
+  pub first-fits : x .first < 2 ^ 64
+  pub pages-fit : x .pages < 2 ^ 32
+  pub attributes-fit : x .attributes < 2 ^ 16
+  pub id-fits : x .id < 2 ^ 16
+
+-- and so do all fields; there are eight ranges and 52 bytes of information.
+pub record Typed (f : ReportFields) : Type 0 where
+  pub info-fits : f .info < 2 ^ 16
+  pub msix-fits : f .msix < 2 ^ 16
+  pub lnr-fits : f .lnr < 2 ^ 16
+  pub tph-fits : f .tph < 2 ^ 32
+  pub n-fits : f .n < 2 ^ 32
+  pub l-fits : f .l < 2 ^ 32
+  pub ranges-typed : (k : ℕ) → TypedRange (fieldRange f k)
+  pub ranges-length : length (f .ranges) ≡ mostRanges
+  pub information-length : length (f .information) ≡ mostInformation
+  pub information-typed : Bytes (f .information)
 
 -- The round trip is of these: fields with zero in the places past N and L.
 unfoldable pub normal : ReportFields → ReportFields

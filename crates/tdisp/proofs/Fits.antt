@@ -14,7 +14,7 @@ use Rattle.rules.specs.Record.{mostInformation}
 use Rattle.rules.specs.Report.{mostReport, totalOf, fieldRange, contentNumber, writeNumber, writtenLength, written}
 use Rattle.rules.specs.declared.Answer.{Answer}
 use Rattle.rules.specs.declared.ReportFields.{ReportFields}
-use Rattle.demands.proofs.Values.{value-small}
+use Rattle.rules.proofs.Values.{value-small}
 
 pub fits : (c : Call) (t : List ℕ) (a : Answer) (reply table : List ℕ) → Gives (step c t) a reply table → answerValue a ≤ 256
 fits c t a reply table g = rw (g .value-is) (value-small c t)

@@ -1,6 +1,6 @@
-// Bytes copied over a place.
+// Bytes copied over a place, and how many at most.
 ghost use mathlib.Core.Path.{_≡_};
-ghost use Prim.Native.Nat.{_+_, _≤_};
+ghost use Prim.Native.Nat.{_+_, _≤_, min};
 ghost use lib.ListN.{length};
 ghost use Rattle.rules.specs.Bytes.{over};
 
@@ -14,4 +14,11 @@ pub fn copy_over(s: &mut [u8], at: usize, new: &[u8])
         s[at + i] = new[i];
         i += 1;
     }
+}
+
+// The lesser of two lengths.
+pub fn least(n: usize, most: usize) -> usize
+    ensures { λ r. ⌜ (r ≡ min n most) × (r ≤ most) ⌝ }
+{
+    if n < most { n } else { most }
 }

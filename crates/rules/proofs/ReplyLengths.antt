@@ -1,4 +1,4 @@
--- Every reply has at most 256 bytes, so that it fits the least reply buffer. Assumes nothing.
+-- The longest reply is 148 bytes. Assumes nothing.
 use mathlib.Core.Path.{_≡_}
 use mathlib.Core.Bool.{Bool, true, false, not}
 use mathlib.Core.List.{List, [], _∷_}
@@ -6,13 +6,13 @@ use Prim.Native.Nat.{ℕ, _≤_}
 use native.Mathlib.Omega.{arith}
 use lib.Dec.{eqb, leb}
 use lib.ListN.{length, length-append, length-take}
 use Rattle.rules.specs.Bytes.{if_then_else_, num, bytesOf, part, sameBytes}
-use Rattle.rules.specs.Call.{leastReply}
+use Rattle.rules.specs.Call.{mostReply}
 use Rattle.rules.specs.Lock.{supported}
 use Rattle.rules.specs.Record.{Rec, CONFIG_UNLOCKED, state, nonce, offsetOk}
 use Rattle.rules.specs.Report.{reportBytes, reportOf, reportTotal, portionLength, remainderLength, portionBytes}
 use Rattle.rules.specs.Request.{Lent, Effect, does, fails, header, message, errorMessage, capabilities, legalIn, kindOf, secure, askedFlags, askedStream, askedOffset, locked, running, cleared, lockInterface, getReport, startInterface, gets, effect}
 use Rattle.rules.proofs.Numbers.{length-bytes}
 
 -- ---- messages
 
@@ -22,16 +22,16 @@ unfolding part
 part-short s at n = rw length-take (omega arith)
 
 -- a message is a header of at most 16 bytes and its payload
-message-short : (kind : ℕ) (q payload : List ℕ) → length payload ≤ 240 → length (message kind q payload) ≤ leastReply
+message-short : (kind : ℕ) (q payload : List ℕ) → length payload ≤ 132 → length (message kind q payload) ≤ mostReply
 unfolding message header
 message-short kind q payload h = rw (length-append, length-append) (omega (arith, part-short q 4 12))
 
 -- an error's payload has 8 bytes,
-pub error-short : (code datum : ℕ) (q : List ℕ) → length (errorMessage code datum q) ≤ leastReply
+pub error-short : (code datum : ℕ) (q : List ℕ) → length (errorMessage code datum q) ≤ mostReply
 error-short code datum q = message-short 0x7f q _ (rw (length-append, length-bytes 4 code, length-bytes 4 datum) (omega arith))
 
 -- a portion's two lengths of 2 bytes and at most 128 of the report,
-portion-short : (r : Rec) (at asked : ℕ) → length (portionBytes r at asked) ≤ 240
+portion-short : (r : Rec) (at asked : ℕ) → length (portionBytes r at asked) ≤ 132
 unfolding portionBytes
 portion-short r at asked =
     let n = portionLength (reportTotal r) at asked in
@@ -39,7 +39,7 @@ portion-short r at asked =
     rw (length-append, length-append, length-bytes 2 n, length-bytes 2 m) (omega (arith, part-short (reportBytes (reportOf r)) at n))
 
 -- and the capabilities' 28
-capabilities-short : length capabilities ≤ 240
+capabilities-short : length capabilities ≤ 132
 unfolding bytesOf
 capabilities-short = omega arith
 
@@ -47,7 +47,7 @@ capabilities-short = omega arith
 
 -- an effect whose reply is so short
 data Short : Effect → Type 0 where
-  short : {m : List ℕ} {r : Rec} → length m ≤ leastReply → Short (does m r)
+  short : {m : List ℕ} {r : Rec} → length m ≤ mostReply → Short (does m r)
 
 either : (b : Bool) {x y : Effect} → Short x → Short y → Short (if b then x else y)
 either true p q = p
@@ -60,7 +60,7 @@ module _ (l : Lent) (r : Rec) (nonce-long : length (l .nonce) ≡ 32) where
   error : (code : ℕ) → Short (fails code q r)
   error code = short (error-short code 0 q)
 
-  reply : (kind : ℕ) (payload : List ℕ) (after : Rec) → length payload ≤ 240 → Short (does (message kind q payload) after)
+  reply : (kind : ℕ) (payload : List ℕ) (after : Rec) → length payload ≤ 132 → Short (does (message kind q payload) after)
   reply kind payload after h = short (message-short kind q payload h)
 
   lock-short : Short (lockInterface l r)
@@ -98,8 +98,8 @@ module _ (l : Lent) (r : Rec) (nonce-long : length (l .nonce) ≡ 32) where
       (either (eqb (kindOf q) 0x87) (reply 0x07 [] (cleared CONFIG_UNLOCKED r) (omega arith)) gets-short)))
 
   -- whatever the request and the record are
-  pub effect-short : length (effect l r .reply) ≤ leastReply
+  pub effect-short : length (effect l r .reply) ≤ mostReply
   effect-short = by (effect l r) carried-short
     where
-      by : (e : Effect) → Short e → length (e .reply) ≤ leastReply
+      by : (e : Effect) → Short e → length (e .reply) ≤ mostReply
       by e (short h) = h

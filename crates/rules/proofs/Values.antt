@@ -1,25 +1,22 @@
--- Every length and count is at most 256, so that it fits 32 bits. Assumes nothing.
+-- Every reply has at most 148 bytes, and every length and count is at most 256, so that it fits 32 bits. Assumes nothing.
 use mathlib.Core.Path.{_≡_, refl, ap, _∙_}
 use mathlib.Core.Bool.{Bool, true, false, not, _&&_}
 use mathlib.Core.List.{List, [], _∷_, map}
 use Prim.Native.Nat.{ℕ, _+_, _≤_}
 use native.Mathlib.Omega.{arith}
-use borrow.Author.Tests.{eqb-true, eqb-false}
+use borrow.Author.Tests.{eqb-true}
 use lib.Dec.{eqb}
 use lib.ListN.{length}
 use Rattle.rules.specs.Bytes.{if_then_else_}
-use Rattle.rules.specs.Call.{Outcome, refused, carriedOut, changed, answered, registerWritten, happened, firmwareAsked, Call, Request, RegisterWrite, DeviceWide, FirmwareQuestion, step}
+use Rattle.rules.specs.Call.{Outcome, refused, changed, mostReply, answered, registerWritten, happened, firmwareAsked, Call, Request, RegisterWrite, DeviceWide, FirmwareQuestion, step}
 use Rattle.rules.specs.Change.{ruleOf, hits, writeHits, moved, differing, firmwareYes}
 use Rattle.rules.specs.Identity.{identityOf}
 use Rattle.rules.specs.Record.{Rec, state}
-use Rattle.rules.specs.Request.{Lent, verdict}
-use Rattle.rules.specs.Table.{records, find, tableNumber, lookupNumber}
-use Rattle.rules.specs.declared.Verdict.{Verdict}
-use Rattle.rules.specs.declared.Verdict.the-variants.{Error, Serve}
+use Rattle.rules.specs.Request.{Lent}
+use Rattle.rules.specs.Table.{records, recordAt, find, tableNumber, lookupNumber}
 use Rattle.rules.proofs.Accepted.{at-most}
-use Rattle.rules.proofs.ServedCall.{refused-leaves}
-use Rattle.demands.proofs.ReplyLengths.{error-short, effect-short}
-use Rattle.demands.proofs.Tells.{Past, past}
+use Rattle.rules.proofs.ServedCall.{Answers, refuses, errs, carries, answered-is}
+use Rattle.rules.proofs.ReplyLengths.{error-short, effect-short}
 
 -- at most as many states differ as there are records
 differing-most : (rs ss : List Rec) → differing rs ss ≤ length rs
@@ -35,24 +32,19 @@ differing-most (r ∷ rs) (s ∷ ss) = by (eqb (state r) (state s)) (differing-m
 count-small : (p : Rec → Bool) (t : List ℕ) → tableNumber t ≡ 0 → changed p t .value ≤ 256
 count-small p t accepted = omega (arith, differing-most (records t) (map (moved p) (records t)), at-most t accepted)
 
-carried-small : (l : Lent) (t : List ℕ) → length (l .nonce) ≡ 32 → (v : Verdict) → carriedOut v l t .value ≤ 256
-carried-small l t n (Error code datum) = error-short code datum (l .request)
-carried-small l t n (Serve k) = effect-short l _ n
-
--- a request that is refused has length 0
-reply-small : (l : Lent) (t : List ℕ) → answered l t .value ≤ 256
-reply-small l t = by (eqb (answered l t .number) 0) refl
+-- the longest reply is 148 bytes; a request that is refused has length 0
+pub reply-small : (l : Lent) (t : List ℕ) → answered l t .value ≤ mostReply
+reply-small l t = by (answered l t) (answered-is l t)
   where
-    by : (b : Bool) → eqb (answered l t .number) 0 ≡ b → answered l t .value ≤ 256
-    by true e =
-        let p = past l t (eqb-true (answered l t .number) 0 e) in
-        rw (p .is) (carried-small l t (p .nonce-long) (verdict (l .request) (records t)))
-    by false e = let (r, s, z) = refused-leaves l t (eqb-false (answered l t .number) 0 e) in omega (arith, z)
+    by : (o : Outcome) → Answers l t o → o .value ≤ mostReply
+    by o (refuses n z) = omega arith
+    by o (errs code datum) = error-short code datum (l .request)
+    by o (carries k on) = effect-short l (recordAt t k) (on .nonce-long)
 
 -- so of every call
 pub value-small : (c : Call) (t : List ℕ) → step c t .value ≤ 256
 unfolding registerWritten happened firmwareAsked
-value-small (Request l) t = reply-small l t
+value-small (Request l) t = omega (arith, reply-small l t)
 value-small (RegisterWrite id class) t = by (eqb (tableNumber t) 0) refl (eqb (lookupNumber (find (identityOf id) (records t))) 0)
   where
     by : (a : Bool) → eqb (tableNumber t) 0 ≡ a → (b : Bool)
