@@ -6,9 +6,10 @@
 //! that lock's nonce, and since that lock no accepted stop naming it and no served change that 01 sends to ERROR.
 //! Neighbouring calls that name different interfaces may be swapped: same replies, same final table.
 
-use tdisp::calls::{Call, ORDINARY, Outcome, Side};
-use tdisp::cases::{self, RECORD, Rng, function_id, say, seed_of};
-use tdisp::{FunctionId, ordinary};
+use compare::calls::{Call, ORDINARY, Outcome, Side};
+use compare::cases::{self, RECORD, Rng, function_id, say, seed_of};
+use compare::ordinary;
+use tdisp::FunctionId;
 
 const HISTORIES: u64 = 3_000;
 const CALLS: usize = 60;
@@ -323,7 +324,7 @@ fn neighbours_may_be_swapped() {
         assert!(
             a1 == a2 && b1 == b2 && a_first == b_first,
             "a swap is seen\na: {a}\n  first: {a1}\n  second: {a2}\nb: {b}\n  second: {b1}\n  first: {b2}\ntable: {}",
-            tdisp::calls::hex(&table)
+            compare::calls::hex(&table)
         );
         swaps += 1;
         both_changed += u64::from(after_a != table && after_b != table);
