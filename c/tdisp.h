@@ -3,9 +3,9 @@
  * Byte order: every field wider than a byte, in messages, reports and tables, is low byte first. The numbers of the structs below are
  * plain C numbers.
  *
- * Callers check nothing first: any bytes of any length may be given. What they owe: a pointer is valid for its length, which is that many
- * bytes to read, and to write where it is not const; it is not null, even if its length is 0, when it is not followed. A buffer that is not
- * const overlaps no other of the call; const ones may overlap. Nobody else writes a buffer, nor reads one that is not const, during the call.
+ * Callers check nothing first: any bytes of any length may be given. What they owe: each pointer is valid for its length, so that as many
+ * bytes can be read there, and written where it is not const; it is not null, even if the length is 0, although it is not followed then. A
+ * buffer that is not const overlaps no other buffer of the call; const ones may overlap. Nobody else writes a buffer while the call runs.
  * A call keeps nothing: there is no state but the table. Calls on different tables may run at the same time.
  *
  * Numbers: 0 served. 1 table length is not 256 to 16,384 in steps of 256. 2 a record breaks its rules. 3 two records have equal
