@@ -325,6 +325,16 @@ static void changes(void) {
     cleared(first, 3), cleared(second, 3);
     check("multicast", moves(tdisp_multicast(table, lent), 0, 2));
     check("multicast again", moves(tdisp_multicast(table, lent), 0, 0));
+    three();
+    locked(third, 0, 3, 9, -4096);
+    lend(3);
+    cleared(first, 3), cleared(third, 3);
+    check("stream 3 down: the last interface, too", moves(tdisp_stream_down(table, lent, 3), 0, 2));
+    three();
+    locked(third, 0, 3, 9, -4096);
+    lend(3);
+    cleared(first, 3), cleared(third, 3);
+    check("session 9 ends: the last interface, too", moves(tdisp_session_end(table, lent, 9), 0, 2));
 }
 
 static void writes(void) {
