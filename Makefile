@@ -33,4 +33,4 @@ demo:
 	@target/bin/card
 
 bench: lib
-	@cd rust && cargo run --release --offline --quiet --bin bench
+	@cd rust && cargo run --release --offline --quiet --package compare --bin bench

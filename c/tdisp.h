@@ -3,8 +3,10 @@
  * Byte order: every field wider than a byte, in messages, reports and tables, is low byte first. The numbers of the structs below are
  * plain C numbers.
  *
- * Callers check nothing first: any bytes of any length may be given. A pointer whose length is 0 is not followed, but must not be null.
- * Buffers must not overlap. A call keeps nothing: there is no state but the table. Calls on different tables may run at the same time.
+ * Callers check nothing first: any bytes of any length may be given. What they owe: each pointer is valid for its length, so that as many
+ * bytes can be read there, and written where it is not const; it is not null, even if the length is 0, although it is not followed then. A
+ * buffer that is not const overlaps no other buffer of the call; const ones may overlap. Nobody else writes a buffer while the call runs.
+ * A call keeps nothing: there is no state but the table. Calls on different tables may run at the same time.
  *
  * Numbers: 0 served. 1 table length is not 256 to 16,384 in steps of 256. 2 a record breaks its rules. 3 two records have equal
  * FUNCTION_ID. 4 reply buffer under 256 bytes. 5 request under 16 bytes. 6 stream map or nonce bytes not 32 long. 7 a register write's

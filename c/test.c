@@ -1,4 +1,6 @@
-/* The worked lines through the header, and whether the header's structs are those that the archive uses. Expected bytes are from the paper. */
+/* The C interface, called through the header: the worked lines, every request, every number of every function, every event. What must come is
+ * built here from the paper's text. After every call the whole table, the whole reply buffer, bytes past what was lent, and the nonce bytes and
+ * stream map are compared with it, whether the call was served or refused. And whether the header's structs are those that the archive uses. */
 #include <stdio.h>
 #include <string.h>
 #include <tdisp.h>
@@ -25,143 +27,423 @@ static void check(const char *name, int right) {
     }
 }
 
-static uint8_t table[512], reply[300], nonce[32], streams[32];
+/* What is lent, and what must be there after the next call. Of the table the first `lent` bytes are lent, of the reply buffer 256. */
+static uint8_t table[66 * 256], wanted_table[66 * 256], reply[300], wanted_reply[300];
+static uint8_t nonce[32], wanted_nonce[32], streams[32], wanted_streams[32];
+static size_t lent;
 
-/* Requester 0100h in CONFIG_UNLOCKED with no ranges; nonce bytes 00 to 1F; stream 3 secure; a reply buffer of EE. */
-static void card(void) {
-    memset(table, 0, sizeof table);
-    table[1] = 1;
-    memset(streams, 0, sizeof streams);
-    streams[0] = 8;
-    for (int i = 0; i < 32; i++)
-        nonce[i] = (uint8_t)i;
-    memset(reply, 0xee, sizeof reply);
+static int as_wanted(void) {
+    return !memcmp(table, wanted_table, sizeof table) && !memcmp(reply, wanted_reply, sizeof reply)
+        && !memcmp(nonce, wanted_nonce, sizeof nonce) && !memcmp(streams, wanted_streams, sizeof streams);
 }
 
-static struct tdisp_answer ask(const uint8_t *request, size_t length, uint8_t ready) {
-    return tdisp_respond(request, length, reply, 256, table, 256, nonce, 32, ready, streams, 32, 9);
+/* ---- Records by the paper's table ---- */
+
+static void put(uint8_t *at, uint64_t number, int bytes) {
+    for (int i = 0; i < bytes; i++)
+        at[i] = (uint8_t)(number >> (8 * i));
 }
 
-static int stays(const uint8_t *from, size_t n) {
-    for (size_t i = 0; i < n; i++)
-        if (from[i] != 0xee)
-            return 0;
-    return 1;
+/* The record at a place: 0100h is a requester's number, 010000h a segment's lowest bit, 1000000h says that the segment is valid. */
+static uint8_t *record(int place, uint32_t function_id) {
+    uint8_t *r = wanted_table + 256 * place;
+    memset(r, 0, 256);
+    put(r, function_id, 4);
+    return r;
 }
 
-static const uint8_t whole_lock[36] = {0x10, 0x83, 0, 0, 0x00, 0x01, 0, 0, 0, 0, 0, 0, 0, 0, 0, 0, 0x05, 0x00, 0x03, 0x00,
-    0x00, 0xf0, 0xff, 0xff, 0xff, 0xff, 0xff, 0xff};
+/* One more range, and device information of 52 bytes that all differ. */
+static void range(uint8_t *r, uint64_t first, uint32_t pages, uint16_t attributes, uint16_t id) {
+    uint8_t *at = r + 72 + 16 * r[10]++;
+    put(at, first, 8), put(at + 8, pages, 4), put(at + 12, attributes, 2), put(at + 14, id, 2);
+}
 
+static void informed(uint8_t *r) {
+    put(r + 12, 0x1e, 2), put(r + 14, 0x8123, 2), put(r + 16, 0x9456, 2), put(r + 20, 0xa789abcd, 4);
+    r[200] = 52;
+    for (int i = 0; i < 52; i++)
+        r[204 + i] = (uint8_t)(0x80 + i);
+}
+
+static void locked(uint8_t *r, uint16_t flags, uint8_t stream, uint8_t session, int64_t offset) {
+    r[4] = 1, r[5] = 1, r[8] = stream, r[9] = session;
+    put(r + 6, flags, 2), put(r + 24, (uint64_t)offset, 8);
+    memcpy(r + 40, wanted_nonce, 32);
+}
+
+static void started(uint8_t *r) {
+    r[4] = 2, r[5] = 0;
+    memset(r + 40, 0, 32);
+}
+
+/* "nonce and lock fields are cleared": bytes 40-71, 6-9 and 24-31 */
+static void cleared(uint8_t *r, uint8_t state) {
+    r[4] = state, r[5] = 0;
+    memset(r + 6, 0, 4), memset(r + 24, 0, 8), memset(r + 40, 0, 32);
+}
+
+/* ---- What a call gets ---- */
+
+/* The table as it is wanted now is lent, with nonce bytes 00 to 1F, stream 3 secure and a reply buffer of EE. Past it stands CD. */
+static void lend(int records) {
+    lent = 256 * (size_t)records;
+    memset(wanted_table + lent, 0xcd, sizeof wanted_table - lent);
+    memcpy(table, wanted_table, sizeof table);
+    memset(wanted_reply, 0xee, sizeof reply);
+    memcpy(reply, wanted_reply, sizeof reply);
+    memcpy(nonce, wanted_nonce, sizeof nonce);
+    memcpy(streams, wanted_streams, sizeof streams);
+}
+
+/* A request or a reply: header, FUNCTION_ID, eight zeros, payload. */
+struct message { size_t length; uint8_t bytes[256]; };
+
+static struct message message(uint8_t type, uint32_t function_id, const void *payload, size_t length) {
+    struct message m = {16 + length, {0x10, type}};
+    put(m.bytes + 4, function_id, 4);
+    memcpy(m.bytes + 16, payload, length);
+    return m;
+}
+
+static struct message lock(uint32_t function_id, uint16_t flags, uint8_t stream, int64_t offset) {
+    uint8_t payload[20] = {0};
+    put(payload, flags, 2), payload[2] = stream, put(payload + 4, (uint64_t)offset, 8);
+    return message(0x83, function_id, payload, 20);
+}
+
+static struct message error(uint32_t function_id, uint32_t code, uint32_t data) {
+    uint8_t payload[8];
+    put(payload, code, 4), put(payload + 4, data, 4);
+    return message(0x7f, function_id, payload, 8);
+}
+
+static struct tdisp_answer ask_marked(struct message m, uint8_t ready, uint8_t session) {
+    return tdisp_respond(m.bytes, m.length, reply, 256, table, lent, nonce, 32, ready, streams, 32, session);
+}
+
+static struct tdisp_answer ask(struct message m) { return ask_marked(m, 1, 9); }
+
+/* Served: the reply stands at the front, all else is as wanted. */
+static int replies(struct tdisp_answer a, struct message m) {
+    memcpy(wanted_reply, m.bytes, m.length);
+    return a.number == 0 && a.length == m.length && as_wanted();
+}
+
+static void replied(const char *name, struct tdisp_answer a, struct message m) { check(name, replies(a, m)); }
+static int refuses(struct tdisp_answer a, uint32_t number) { return a.number == number && a.length == 0 && as_wanted(); }
+static int moves(struct tdisp_moved m, uint32_t number, uint32_t count) { return m.number == number && m.count == count && as_wanted(); }
+static int says(struct tdisp_yes y, uint32_t number, uint32_t yes) { return y.number == number && y.yes == yes && as_wanted(); }
+
+/* ---- Requests ---- */
+
+static void worked_lines(void) {
+    static const struct message mismatch = {24, {0x10, 0x7f, 0, 0, 0x00, 0x01, 0, 0, 0, 0, 0, 0, 0, 0, 0, 0, 0x41}};
+    static const struct message other = {16, {0x11, 0x81, 0, 0, 0x00, 0x01}}, stop = {16, {0x10, 0x87, 0, 0, 0x00, 0x01}};
+    static const struct message stopped = {16, {0x10, 0x07, 0, 0, 0x00, 0x01}}, state_2 = {17, {0x10, 0x05, 0, 0, 0x00, 0x01, [16] = 2}};
+    static const struct message whole = {36, {0x10, 0x83, 0, 0, 0x00, 0x01, 0, 0, 0, 0, 0, 0, 0, 0, 0, 0, 0x05, 0x00, 0x03, 0x00,
+        0x00, 0xf0, 0xff, 0xff, 0xff, 0xff, 0xff, 0xff}};
+    uint8_t guess[32];
+    uint8_t *r = record(0, 0x100);
+    lend(1);
+    replied("version 11h: 41h", ask(other), mismatch);
+    replied("stop in state 0: 07h, unchanged", ask(stop), stopped);
+    locked(r, 5, 3, 9, -4096);
+    replied("the whole lock: 03h and the nonce, and the record is locked", ask(whole), message(0x03, 0x100, wanted_nonce, 32));
+    replied("a lock in state 1: 04h", ask(whole), error(0x100, 0x04, 0));
+    memcpy(guess, wanted_nonce, 32), guess[31] ^= 0x80;
+    replied("start with another nonce: 102h, and nothing is spent", ask(message(0x86, 0x100, guess, 32)), error(0x100, 0x102, 0));
+    started(r);
+    replied("start: 06h, RUN, the nonce is cleared", ask(message(0x86, 0x100, wanted_nonce, 32)), message(0x06, 0x100, "", 0));
+    replied("start in state 2: 04h", ask(message(0x86, 0x100, wanted_nonce, 32)), error(0x100, 0x04, 0));
+    replied("state: 05h and 2", ask(message(0x85, 0x100, "", 0)), state_2);
+    cleared(r, 0);
+    replied("stop: 07h, lock fields and nonce are cleared", ask(stop), stopped);
+}
+
+/* Two interfaces, 0100h of no segment and 0100h of segment FFh; the second has a range, words and information. */
 static void requests(void) {
-    static const uint8_t other_version[16] = {0x11, 0x81, 0, 0, 0x00, 0x01};
-    static const uint8_t mismatch[24] = {0x10, 0x7f, 0, 0, 0x00, 0x01, 0, 0, 0, 0, 0, 0, 0, 0, 0, 0, 0x41};
-    static const uint8_t stop[16] = {0x10, 0x87, 0, 0, 0x00, 0x01}, stopped[16] = {0x10, 0x07, 0, 0, 0x00, 0x01};
-    static const uint8_t locked[16] = {0x10, 0x03, 0, 0, 0x00, 0x01};
-    uint8_t before[256];
-    card();
-    struct tdisp_answer a = ask(other_version, 16, 1);
-    check("version 11h: 41h", a.number == 0 && a.length == 24 && !memcmp(reply, mismatch, 24) && stays(reply + 24, 276));
-    card();
-    memcpy(before, table, 256);
-    a = ask(stop, 16, 1);
-    check("stop in state 0: 07h, unchanged", a.number == 0 && a.length == 16 && !memcmp(reply, stopped, 16) && !memcmp(table, before, 256));
-    card();
-    a = ask(whole_lock, 36, 1);
-    check("the whole lock: 03h and the nonce", a.number == 0 && a.length == 48 && !memcmp(reply, locked, 16) && !memcmp(reply + 16, nonce, 32)
-        && stays(reply + 48, 252));
-    check("the record is locked", table[4] == 1 && table[5] == 1 && table[6] == 5 && table[8] == 3 && table[9] == 9 && table[25] == 0xf0
-        && !memcmp(table + 40, nonce, 32));
-    card();
-    a = ask(whole_lock, 36, 0);
-    check("not ready: 103h", a.number == 0 && a.length == 24 && reply[16] == 0x03 && reply[17] == 0x01 && table[4] == 0);
-    a = ask(whole_lock, 36, 200);
-    check("ready is anything but 0", a.number == 0 && a.length == 48);
+    static const uint8_t capabilities[28] = {[4] = 0xfe, [20] = 5, [25] = 64, [26] = 1, [27] = 1};
+    static const uint8_t from_0[4] = {0, 0, 0xff, 0xff}, from_87[4] = {87, 0, 0xff, 0xff}, from_88[4] = {88, 0, 0, 0};
+    uint8_t report[4 + 88] = {88, 0, 0, 0};
+    const uint32_t id = 0x1ff0100;
+    record(0, 0x100);
+    uint8_t *r = record(1, id);
+    range(r, 16, 2, 0x0f, 9), informed(r);
+    lend(2);
+    replied("version: 01h", ask(message(0x81, id, "", 0)), message(0x01, id, "\x01\x10", 2));
+    replied("capabilities: 02h", ask(message(0x82, id, "\xff\xff\xff\xff", 4)), message(0x02, id, capabilities, 28));
+    replied("state 0", ask(message(0x85, id, "", 0)), message(0x05, id, "", 1));
+    replied("a report in state 0: 04h", ask(message(0x84, id, from_0, 4)), error(id, 0x04, 0));
+    replied("unlisted: 07h and the type", ask(message(0x88, id, "", 0)), error(id, 0x07, 0x88));
+    replied("a length that is not exact: 01h", ask(message(0x81, id, "", 1)), error(id, 0x01, 0));
+    replied("unknown: 101h", ask(message(0x81, 0x1fe0100, "", 0)), error(0x1fe0100, 0x101, 0));
+    replied("flag bit 1: 01h", ask(lock(id, 2, 3, 0)), error(id, 0x01, 0));
+    replied("offset 1: 01h", ask(lock(id, 5, 3, 1)), error(id, 0x01, 0));
+    replied("first 16, offset -69632: 01h", ask(lock(id, 5, 3, -69632)), error(id, 0x01, 0));
+    replied("stream 4 is not secure: 104h", ask(lock(id, 5, 4, -65536)), error(id, 0x104, 0));
+    locked(r, 5, 3, 9, -65536);
+    replied("a lock of the second, flags 15:5 set", ask(lock(id, 0xffe5, 3, -65536)), message(0x03, id, wanted_nonce, 32));
+    /* INTERFACE_INFO with bit 0, MSI-X, LNR, TPH, one range with first page 0, L, information */
+    uint8_t *b = report + 4;
+    put(b, 0x1f, 2), put(b + 4, 0x8123, 2), put(b + 6, 0x9456, 2), put(b + 8, 0xa789abcd, 4), b[12] = 1;
+    put(b + 24, 2, 4), put(b + 28, 0x0f, 2), put(b + 30, 9, 2), b[32] = 52, memcpy(b + 36, r + 204, 52);
+    replied("its report, first page 0", ask(message(0x84, id, from_0, 4)), message(0x04, id, report, 92));
+    replied("its last byte", ask(message(0x84, id, from_87, 4)), message(0x04, id, "\1\0\0\0\xb3", 5));
+    replied("OFFSET at the total: 01h", ask(message(0x84, id, from_88, 4)), error(id, 0x01, 0));
 }
 
-static void refusals(void) {
-    uint8_t before[512];
-    card();
-    memcpy(before, table, 512);
-    struct tdisp_answer a = tdisp_respond(whole_lock, 36, reply, 256, table, 255, nonce, 32, 1, streams, 32, 9);
-    check("1", a.number == 1 && a.length == 0);
-    a = tdisp_respond(whole_lock, 36, reply, 255, table, 256, nonce, 32, 1, streams, 32, 9);
-    check("4", a.number == 4 && a.length == 0);
-    a = tdisp_respond(whole_lock, 15, reply, 256, table, 256, nonce, 32, 1, streams, 32, 9);
-    check("5", a.number == 5 && a.length == 0);
-    a = tdisp_respond(whole_lock, 36, reply, 256, table, 256, nonce, 31, 1, streams, 32, 9);
-    check("6, the nonce", a.number == 6 && a.length == 0);
-    a = tdisp_respond(whole_lock, 36, reply, 256, table, 256, nonce, 32, 1, streams, 33 - 2, 9);
-    check("6, the map", a.number == 6 && a.length == 0);
-    struct tdisp_moved m = tdisp_register_write(table, 256, 0x101, 1);
-    check("7", m.number == 7 && m.count == 0);
-    check("nothing was written", !memcmp(table, before, 512) && stays(reply, 300));
-    table[4] = 4;
-    check("2", tdisp_multicast(table, 256).number == 2 && tdisp_firmware(table, 256).number == 2);
-    card();
-    table[257] = 1;
-    m = tdisp_stream_down(table, 512, 3);
-    check("3", m.number == 3 && m.count == 0);
+/* The ready mark is 0 or anything else; stream and session cross as bytes of any value. */
+static void marks_and_numbers(void) {
+    int right = 1;
+    for (int mark = 0; mark < 256; mark++) {
+        uint8_t *r = record(0, 0x100);
+        lend(1);
+        if (mark)
+            locked(r, 0, 3, 9, 0);
+        struct tdisp_answer a = ask_marked(lock(0x100, 0, 3, 0), (uint8_t)mark, 9);
+        right &= replies(a, mark ? message(0x03, 0x100, wanted_nonce, 32) : error(0x100, 0x103, 0));
+    }
+    check("ready mark 0: 103h; 1 to 255: locked", right);
+    right = 1;
+    for (int number = 0; number < 256; number++) {
+        uint8_t *r = record(0, 0x100);
+        memset(wanted_streams, 0, 32);
+        wanted_streams[number / 8] = (uint8_t)(1 << number % 8);
+        lend(1);
+        locked(r, 0, (uint8_t)number, (uint8_t)(255 - number), 0);
+        struct tdisp_answer a = ask_marked(lock(0x100, 0, (uint8_t)number, 0), 1, (uint8_t)(255 - number));
+        right &= replies(a, message(0x03, 0x100, wanted_nonce, 32));
+        right &= moves(tdisp_stream_down(table, lent, (uint8_t)(number + 1)), 0, 0);
+        right &= moves(tdisp_session_end(table, lent, (uint8_t)(254 - number)), 0, 0);
+        cleared(r, 3);
+        right &= moves(number % 2 ? tdisp_stream_down(table, lent, (uint8_t)number) : tdisp_session_end(table, lent, (uint8_t)(255 - number)), 0, 1);
+    }
+    memset(wanted_streams, 0, 32), wanted_streams[0] = 8;
+    check("every stream and session number", right);
 }
 
-/* Two interfaces in RUN on streams 3 and 4, of sessions 9 and 8, the second under NO_FW_UPDATE. */
-static void running(void) {
-    card();
-    table[4] = 2, table[8] = 3, table[9] = 9;
-    table[256] = 1, table[257] = 1, table[260] = 2, table[262] = 1, table[264] = 4, table[265] = 8;
+/* Buffers that are only read may overlap. */
+static void overlapping(void) {
+    const struct message m = lock(0x100, 0, 3, 0);
+    uint8_t *r = record(0, 0x100);
+    lend(1);
+    locked(r, 0, 3, 9, 0);
+    memcpy(r + 40, m.bytes, 32);
+    struct tdisp_answer a = tdisp_respond(m.bytes, 36, reply, 256, table, lent, m.bytes, 32, 1, streams, 32, 9);
+    replied("the nonce is the request's front", a, message(0x03, 0x100, m.bytes, 32));
+    record(0, 0x100);
+    lend(1);
+    locked(r, 0, 3, 9, 0);
+    memcpy(r + 40, streams, 32);
+    a = tdisp_respond(m.bytes, 36, reply, 256, table, lent, streams, 32, 1, streams, 32, 9);
+    replied("the nonce is the stream map", a, message(0x03, 0x100, streams, 32));
+}
+
+/* ---- Refusals ---- */
+
+/* A pointer that must not be followed. */
+static uint8_t *const nowhere = (uint8_t *)16;
+
+static void refused_requests(void) {
+    const struct message m = lock(0x100, 5, 3, 0);
+    record(0, 0x100);
+    lend(1);
+    check("4", refuses(tdisp_respond(m.bytes, 36, reply, 255, table, 256, nonce, 32, 1, streams, 32, 9), 4));
+    check("4, an empty buffer", refuses(tdisp_respond(m.bytes, 36, nowhere, 0, table, 256, nonce, 32, 1, streams, 32, 9), 4));
+    check("4 before 5 and 6", refuses(tdisp_respond(m.bytes, 15, reply, 255, table, 256, nonce, 31, 1, streams, 31, 9), 4));
+    check("5", refuses(tdisp_respond(m.bytes, 15, reply, 256, table, 256, nonce, 32, 1, streams, 32, 9), 5));
+    check("5, an empty request", refuses(tdisp_respond(nowhere, 0, reply, 256, table, 256, nonce, 32, 1, streams, 32, 9), 5));
+    check("5 before 6", refuses(tdisp_respond(m.bytes, 15, reply, 256, table, 256, nonce, 31, 1, streams, 31, 9), 5));
+    check("6, the nonce", refuses(tdisp_respond(m.bytes, 36, reply, 256, table, 256, nonce, 31, 1, streams, 32, 9), 6));
+    check("6, no nonce", refuses(tdisp_respond(m.bytes, 36, reply, 256, table, 256, nowhere, 0, 1, streams, 32, 9), 6));
+    check("6, the map", refuses(tdisp_respond(m.bytes, 36, reply, 256, table, 256, nonce, 32, 1, streams, 31, 9), 6));
+    check("6, no map", refuses(tdisp_respond(m.bytes, 36, reply, 256, table, 256, nonce, 32, 1, nowhere, 0, 9), 6));
+    check("1 before all", refuses(tdisp_respond(nowhere, 0, nowhere, 0, nowhere, 0, nowhere, 0, 1, nowhere, 0, 9), 1));
+}
+
+/* All six calls on a table as it is lent: refused with the number, and nothing written. */
+static void all_refused(const char *name, uint32_t number) {
+    int right = refuses(ask(lock(0x100, 5, 3, 0)), number) && moves(tdisp_register_write(table, lent, 0x100, 4), number, 0)
+        && moves(tdisp_register_write(table, lent, 0x999, 10), number, 0) && moves(tdisp_stream_down(table, lent, 3), number, 0)
+        && moves(tdisp_session_end(table, lent, 9), number, 0) && moves(tdisp_multicast(table, lent), number, 0)
+        && says(tdisp_firmware(table, lent), number, 0);
+    check(name, right);
+}
+
+static void refused_tables(void) {
+    static const size_t lengths[] = {1, 255, 257, 16383, 16385, 65 * 256};
+    for (int place = 0; place < 65; place++)
+        started(record(place, 0x100 + (uint32_t)place));
+    lend(65);
+    for (size_t i = 0; i < sizeof lengths / sizeof lengths[0]; i++) {
+        lent = lengths[i];
+        all_refused("1", 1);
+    }
+    lent = 0;
+    check("1, no table", moves(tdisp_multicast(nowhere, 0), 1, 0) && moves(tdisp_register_write(nowhere, 0, 0x100, 4), 1, 0)
+        && moves(tdisp_stream_down(nowhere, 0, 3), 1, 0) && moves(tdisp_session_end(nowhere, 0, 9), 1, 0) && says(tdisp_firmware(nowhere, 0), 1, 0));
+    lend(64);
+    check("64 records are served: yes", says(tdisp_firmware(table, lent), 0, 1));
+    wanted_table[63 * 256 + 4] = 4;
+    lend(64);
+    all_refused("2, in the last record", 2);
+    put(wanted_table + 63 * 256, 0x100, 4);
+    lend(64);
+    all_refused("2 before 3", 2);
+    wanted_table[63 * 256 + 4] = 2;
+    lend(64);
+    all_refused("3, the first and the last record", 3);
+}
+
+/* ---- Changes ---- */
+
+static uint8_t *first, *second, *third;
+
+/* In RUN on stream 3 over session 9; locked under NO_FW_UPDATE and LOCK_MSIX on stream 200 over session 3; unlocked. */
+static void three(void) {
+    first = record(0, 0x100), second = record(1, 0x1ff0100), third = record(2, 0x102);
+    range(first, 16, 1, 0, 0), informed(first), locked(first, 0, 3, 9, -65536), started(first);
+    informed(second), locked(second, 5, 200, 3, INT64_MIN);
+    range(third, 1, 1, 0, 0), informed(third);
+    lend(3);
 }
 
 static void changes(void) {
-    running();
-    struct tdisp_moved m = tdisp_stream_down(table, 512, 4);
-    check("stream 4 down", m.number == 0 && m.count == 1 && table[4] == 2 && table[260] == 3 && table[262] == 0 && table[264] == 0);
-    running();
-    m = tdisp_session_end(table, 512, 9);
-    check("session 9 ends", m.number == 0 && m.count == 1 && table[4] == 3 && table[260] == 2);
-    running();
-    m = tdisp_multicast(table, 512);
-    check("multicast", m.number == 0 && m.count == 2 && table[4] == 3 && table[260] == 3);
-    running();
-    m = tdisp_register_write(table, 512, 0x100, 15);
-    check("class 15 is allowed", m.number == 0 && m.count == 0 && table[4] == 2);
-    m = tdisp_register_write(table, 512, 0x100, 18);
-    check("class 18 is ERROR", m.number == 0 && m.count == 1 && table[4] == 3 && table[260] == 2);
-    struct tdisp_yes y = tdisp_firmware(table, 512);
-    check("firmware: no", y.number == 0 && y.yes == 0);
-    tdisp_multicast(table, 512);
-    y = tdisp_firmware(table, 512);
-    check("firmware: yes", y.number == 0 && y.yes == 1);
+    three();
+    check("firmware: no", says(tdisp_firmware(table, lent), 0, 0));
+    cleared(second, 3);
+    check("stream 200 down", moves(tdisp_stream_down(table, lent, 200), 0, 1));
+    check("stream 0 down: no state 0 or 3 moves", moves(tdisp_stream_down(table, lent, 0), 0, 0));
+    check("firmware: yes", says(tdisp_firmware(table, lent), 0, 1));
+    three();
+    cleared(first, 3);
+    check("stream 3 down, not session 3", moves(tdisp_stream_down(table, lent, 3), 0, 1));
+    three();
+    cleared(second, 3);
+    check("session 3 ends, not stream 3", moves(tdisp_session_end(table, lent, 3), 0, 1));
+    three();
+    cleared(first, 3), cleared(second, 3);
+    check("multicast", moves(tdisp_multicast(table, lent), 0, 2));
+    check("multicast again", moves(tdisp_multicast(table, lent), 0, 0));
+    three();
+    locked(third, 0, 3, 9, -4096);
+    lend(3);
+    cleared(first, 3), cleared(third, 3);
+    check("stream 3 down: the last interface, too", moves(tdisp_stream_down(table, lent, 3), 0, 2));
+    three();
+    locked(third, 0, 3, 9, -4096);
+    lend(3);
+    cleared(first, 3), cleared(third, 3);
+    check("session 9 ends: the last interface, too", moves(tdisp_session_end(table, lent, 9), 0, 2));
 }
 
-/* A report of 20 + 16 + 52 bytes in which every field is told from every other. */
-static const uint8_t one_range[88] = {0x1f, 0, 0, 0, 0x02, 0x03, 0x04, 0x05, 0x06, 0x07, 0x08, 0x09, 1, 0, 0, 0,
-    0x11, 0x12, 0x13, 0x14, 0x15, 0x16, 0x07, 0x00, 0x21, 0x22, 0x23, 0x04, 0x0f, 0x00, 0x31, 0x32, 52, 0, 0, 0,
-    [36] = 0x41, [87] = 0x42};
+static void writes(void) {
+    three();
+    check("class 15 is allowed", moves(tdisp_register_write(table, lent, 0x100, 15), 0, 0));
+    check("class 2 without LOCK_MSIX", moves(tdisp_register_write(table, lent, 0x100, 2), 0, 0));
+    check("7", moves(tdisp_register_write(table, lent, 0x101, 4), 7, 0));
+    check("7, another segment", moves(tdisp_register_write(table, lent, 0x1fe0100, 4), 7, 0));
+    check("7, class 10", moves(tdisp_register_write(table, lent, 0x101, 10), 7, 0));
+    cleared(second, 3);
+    check("class 2 under LOCK_MSIX, reserved bits ignored", moves(tdisp_register_write(table, lent, 0xffff0100, 2), 0, 1));
+    cleared(first, 3);
+    check("class 255 is ERROR, an unmarked segment ignored", moves(tdisp_register_write(table, lent, 0xff0100, 255), 0, 1));
+    check("and moves nothing twice", moves(tdisp_register_write(table, lent, 0x100, 255), 0, 0));
+    three();
+    cleared(first, 3), cleared(second, 3);
+    check("class 10 naming the third moves the others", moves(tdisp_register_write(table, lent, 0x102, 10), 0, 2));
+}
 
-static void reports(void) {
-    uint8_t out[210];
-    check("an empty report: 20", tdisp_read_report(one_range, 0).number == 20);
-    struct tdisp_report r = tdisp_read_report(one_range, 88);
-    check("read: number and words", r.number == 0 && r.info == 0x1f && r.msix == 0x0302 && r.lnr == 0x0504 && r.tph == 0x09080706 && r.n == 1);
-    check("read: the range", r.ranges[0].first == 0x0007161514131211 && r.ranges[0].pages == 0x04232221 && r.ranges[0].attributes == 0x0f
-        && r.ranges[0].id == 0x3231);
-    check("read: the rest", r.ranges[1].pages == 0 && r.ranges[7].id == 0 && r.l == 52 && r.information[0] == 0x41 && r.information[51] == 0x42);
-    memset(out, 0xee, sizeof out);
-    r.number = 77; /* not read */
-    struct tdisp_answer a = tdisp_write_report(r, out, 200);
-    check("written back", a.number == 0 && a.length == 88 && !memcmp(out, one_range, 88) && stays(out + 88, 122));
-    a = tdisp_write_report(r, out, 199);
-    check("26", a.number == 26 && a.length == 0);
-    r.ranges[0].attributes = 0x10;
-    memset(out, 0xee, sizeof out);
-    a = tdisp_write_report(r, out, 200);
-    check("23", a.number == 23 && a.length == 0 && stays(out, 210));
+/* ---- Reports ---- */
+
+static int same_fields(const struct tdisp_report *a, const struct tdisp_report *b) {
+    for (int k = 0; k < 8; k++)
+        if (a->ranges[k].first != b->ranges[k].first || a->ranges[k].pages != b->ranges[k].pages
+            || a->ranges[k].attributes != b->ranges[k].attributes || a->ranges[k].id != b->ranges[k].id)
+            return 0;
+    return a->number == b->number && a->info == b->info && a->msix == b->msix && a->lnr == b->lnr && a->tph == b->tph && a->n == b->n
+        && a->l == b->l && !memcmp(a->information, b->information, 52);
+}
+
+/* Fields that are told from each other, n ranges and l bytes; and their report by the paper, in `bytes`. */
+static struct tdisp_report fields(int n, int l, uint8_t bytes[200]) {
+    struct tdisp_report f = {.info = 0x1f, .msix = 0x8302, .lnr = 0x8504, .tph = 0x89080706, .n = (uint32_t)n, .l = (uint32_t)l};
+    put(bytes, 0x1f, 4), put(bytes + 4, 0x8302, 2), put(bytes + 6, 0x8504, 2), put(bytes + 8, 0x89080706, 4), put(bytes + 12, f.n, 4);
+    for (int k = 0; k < n; k++) {
+        f.ranges[k] = (struct tdisp_range){0x7161514131200 + (uint64_t)k, 0xf4232200 + (uint32_t)k, (uint16_t)(15 - k), (uint16_t)(k < 4 ? k : 0x8000 + k)};
+        uint8_t *at = bytes + 16 + 16 * k;
+        put(at, 0x7161514131200 + (uint64_t)k, 8), put(at + 8, 0xf4232200 + (uint32_t)k, 4), put(at + 12, (uint64_t)(15 - k), 2);
+        put(at + 14, (uint64_t)(k < 4 ? k : 0x8000 + k), 2);
+    }
+    put(bytes + 16 + 16 * n, (uint64_t)l, 4);
+    for (int i = 0; i < l; i++)
+        f.information[i] = bytes[20 + 16 * n + i] = (uint8_t)(0xf0 - i);
+    return f;
+}
+
+static void reports_there_and_back(void) {
+    for (int n = 0; n <= 8; n++) {
+        int l = n == 8 ? 52 : 5 * n, length = 20 + 16 * n + l;
+        uint8_t bytes[200] = {0}, out[210], wanted[210];
+        struct tdisp_report f = fields(n, l, bytes), r = tdisp_read_report(bytes, (size_t)length);
+        check("read", same_fields(&r, &f));
+        memset(out, 0xee, sizeof out), memset(wanted, 0xee, sizeof wanted), memcpy(wanted, bytes, (size_t)length);
+        f.number = 77; /* not read, and so are ranges past N and information past L */
+        for (int k = n; k < 8; k++)
+            f.ranges[k] = (struct tdisp_range){UINT64_MAX, 0, 0xffff, 0};
+        memset(f.information + l, 0xff, 52 - (size_t)l);
+        struct tdisp_answer a = tdisp_write_report(f, out, 200);
+        check("written", a.number == 0 && a.length == (uint32_t)length && !memcmp(out, wanted, sizeof out));
+    }
+}
+
+static void not_read(const uint8_t *bytes, size_t length, uint32_t number) {
+    const struct tdisp_report zeros = {.number = number};
+    struct tdisp_report r = tdisp_read_report(bytes, length);
+    check("a report that is not read: its number and zeros", same_fields(&r, &zeros));
+}
+
+static void not_written(struct tdisp_report f, size_t length, uint32_t number) {
+    uint8_t out[210], wanted[210];
+    memset(out, 0xee, sizeof out), memset(wanted, 0xee, sizeof wanted);
+    struct tdisp_answer a = tdisp_write_report(f, length ? out : nowhere, length);
+    check("a report that is not written", a.number == number && a.length == 0 && !memcmp(out, wanted, sizeof out));
+}
+
+static void reports_refused(void) {
+    uint8_t bytes[201] = {0};
+    struct tdisp_report f = fields(2, 3, bytes); /* 55 bytes */
+    not_read(nowhere, 0, 20), not_read(bytes, 19, 20), not_read(bytes, 51, 20), not_read(bytes, 54, 20), not_read(bytes, 56, 22);
+    bytes[12] = 9, not_read(bytes, 55, 21), bytes[12] = 2;
+    bytes[48] = 53, not_read(bytes, 55, 21), bytes[48] = 3;
+    bytes[2] = 1, not_read(bytes, 55, 23), bytes[2] = 0;
+    bytes[23] = 0x10, not_read(bytes, 55, 24), bytes[23] = 0;
+    bytes[30] = 2, not_read(bytes, 55, 25), bytes[30] = 0;
+    struct tdisp_report r = tdisp_read_report(bytes, 55);
+    check("read again", same_fields(&r, &f));
+    not_written(f, 0, 26), not_written(f, 199, 26);
+    f.n = 9, not_written(f, 200, 21), f.n = 2;
+    f.l = 53, not_written(f, 200, 21), f.l = 3;
+    f.info = 0x20, not_written(f, 200, 23), f.info = 0x1f;
+    f.ranges[1].attributes = 0x10, not_written(f, 200, 23), f.ranges[1].attributes = 14;
+    f.ranges[1].pages = 0, not_written(f, 200, 24), f.ranges[1].pages = 1;
+    f.ranges[0].id = 2, not_written(f, 200, 25);
 }
 
 int main(void) {
+    for (int i = 0; i < 32; i++)
+        wanted_nonce[i] = (uint8_t)i;
+    wanted_streams[0] = 8;
+    worked_lines();
     requests();
-    refusals();
+    marks_and_numbers();
+    overlapping();
+    refused_requests();
+    refused_tables();
     changes();
-    reports();
+    writes();
+    reports_there_and_back();
+    reports_refused();
     printf("c: %d passed, %d failed\n", passed, failed);
     return failed != 0;
 }

@@ -1,4 +1,5 @@
-//! Links the proved archive, ../target/staticlib/libtdisp.a. TDISP_LIB_DIR names another folder that holds a libtdisp.a.
+//! Links the proved archive, ../target/tdisp/libtdisp.a, which 'make lib' writes. TDISP_LIB_DIR names another folder that holds a
+//! libtdisp.a.
 
 use std::env;
 use std::path::{Path, PathBuf};
@@ -7,7 +8,7 @@ fn main() {
     let crate_dir = env::var_os("CARGO_MANIFEST_DIR").expect("cargo sets CARGO_MANIFEST_DIR");
     let dir = match env::var_os("TDISP_LIB_DIR") {
         Some(dir) => PathBuf::from(dir),
-        None => Path::new(&crate_dir).join("../target/staticlib"),
+        None => Path::new(&crate_dir).join("../target/tdisp"),
     };
     let archive = dir.join("libtdisp.a");
     println!("cargo::rerun-if-env-changed=TDISP_LIB_DIR");

@@ -7,10 +7,10 @@
 //!
 //! Both sides are called through function pointers, in turns, with the same calls on the same tables.
 
+use compare::calls::{ORDINARY, PROVED, Side};
+use compare::cases::{self, RECORD, Rng};
 use std::process::{Command, ExitCode};
 use std::time::{Duration, Instant};
-use tdisp::calls::{ORDINARY, PROVED, Side};
-use tdisp::cases::{self, RECORD, Rng};
 use tdisp::{FunctionId, Report, Session, Stream};
 
 const ROUNDS: usize = 21;

@@ -1,7 +1,7 @@
 //! 01's worked lines, and one case for every row of its tables, against both responders. Expected values are the paper's,
 //! written out by hand.
 
-use tdisp::calls::{ORDINARY, PROVED, Side, hex};
+use compare::calls::{ORDINARY, PROVED, Side, hex};
 use tdisp::{Answer, FunctionId, Moved, Range, Report, Session, Stream, Yes};
 
 /// Runs the check on the proved and on the ordinary responder.

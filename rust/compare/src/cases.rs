@@ -3,8 +3,8 @@
 //! responder.
 
 use crate::calls::Call;
-use crate::{FunctionId, Range, Report, Session, Stream};
 use std::io::Write;
+use tdisp::{FunctionId, Range, Report, Session, Stream};
 
 pub const RECORD: usize = 256;
 /// Every first + pages ends here at the latest.

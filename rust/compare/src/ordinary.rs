@@ -4,7 +4,7 @@
 //! A call first judges everything that it was lent, then writes. The judging functions return a `Result`, so a refusal leaves
 //! every buffer as it was.
 
-use crate::{Answer, FunctionId, Moved, Range, Report, Session, Stream, Yes};
+use tdisp::{Answer, FunctionId, Moved, Range, Report, Session, Stream, Yes};
 
 // ---- The table ------------------------------------------------------------------------------------------------------
 

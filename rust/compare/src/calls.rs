@@ -1,7 +1,8 @@
 //! A call as a value, so that it can be repeated, swapped and printed; and the two sides that can run it.
 
-use crate::{Answer, FunctionId, Moved, Report, Session, Stream, Yes, ordinary};
+use crate::ordinary;
 use std::fmt;
+use tdisp::{Answer, FunctionId, Moved, Report, Session, Stream, Yes};
 
 /// One call with all that it is lent except the table.
 #[derive(Clone, Debug, PartialEq, Eq)]
@@ -38,14 +39,14 @@ pub struct Side {
 
 pub const PROVED: Side = Side {
     name: "proved",
-    respond: crate::respond,
-    register_write: crate::register_write,
-    stream_down: crate::stream_down,
-    session_end: crate::session_end,
-    multicast: crate::multicast,
-    firmware: crate::firmware,
-    read_report: crate::read_report,
-    write_report: crate::write_report,
+    respond: tdisp::respond,
+    register_write: tdisp::register_write,
+    stream_down: tdisp::stream_down,
+    session_end: tdisp::session_end,
+    multicast: tdisp::multicast,
+    firmware: tdisp::firmware,
+    read_report: tdisp::read_report,
+    write_report: tdisp::write_report,
 };
 
 pub const ORDINARY: Side = Side {

@@ -3,10 +3,11 @@
 //!
 //! TDISP_SEED sets another seed (a number, or "fresh").
 
+use compare::calls::{Call, ORDINARY, Outcome, PROVED, hex};
+use compare::cases::{self, RECORD, Rng, say, seed_of};
+use compare::ordinary;
 use std::collections::BTreeMap;
-use tdisp::calls::{Call, ORDINARY, Outcome, PROVED, hex};
-use tdisp::cases::{self, RECORD, Rng, say, seed_of};
-use tdisp::{Answer, FunctionId, Report, Session, Stream, ordinary};
+use tdisp::{Answer, FunctionId, Report, Session, Stream};
 
 // How many calls each test makes; the sweeps add more than 400,000.
 const VALID: u64 = 600_000;
@@ -386,7 +387,7 @@ fn locks() {
     compare.done(&["reply 03h", "error 1h", "error 104h"]);
 }
 
-/// Starts with each bit of the nonce wrong; the ready mark of the C interface with each of its values.
+/// Starts with each bit of the nonce wrong; locks with nonce bytes that are ready and that are not.
 #[test]
 fn nonce_bits_and_ready_marks() {
     let mut compare = Compare::new("nonce bits and ready marks");
@@ -396,17 +397,14 @@ fn nonce_bits_and_ready_marks() {
         compare.call(&lent(request(0x86, &guess)), &mut one_record(1, 0));
     }
     compare.call(&lent(request(0x86, &NONCE)), &mut one_record(1, 0));
-    let lock = request(0x83, &lock_payload(5, 3, 0));
-    for mark in 0..=255u8 {
-        let (mut table, mut other_table) = (one_record(0, 0), one_record(0, 0));
-        let (mut reply, mut other_reply) = ([0xEE; 256], [0xEE; 256]);
-        let (nonce, streams) = ([mark; 32], [0xFF; 32]);
-        let proved = tdisp::respond_with_mark(&lock, &mut reply, &mut table, &nonce, mark, &streams, Session(1));
-        let ordinary = ordinary::respond(&lock, &mut other_reply, &mut other_table, &nonce, mark != 0, &streams, Session(1));
-        assert_eq!((proved, reply, &table), (ordinary, other_reply, &other_table), "ready mark {mark}");
-        compare.count("ready mark".into());
+    for mark in [true, false] {
+        let mut call = lent(request(0x83, &lock_payload(5, 3, 0)));
+        if let Call::Respond { ready, .. } = &mut call {
+            *ready = mark;
+        }
+        compare.call(&call, &mut one_record(0, 0));
     }
-    compare.done(&["error 102h", "reply 06h"]);
+    compare.done(&["error 102h", "reply 06h", "reply 03h", "error 103h"]);
 }
 
 /// Portions: every OFFSET to past the longest report, with LENGTHs about each edge, for reports of several lengths.

@@ -1,0 +1,10 @@
+//! What the tests and the benchmark of the crate `tdisp` share. "01" in comments is the paper, "The scope and its exact rules".
+//!
+//! [`ordinary`] has the functions of `tdisp` once more, written by hand from the paper; [`calls`] has a call as a value and the
+//! two responders that can run it; [`cases`] makes inputs from seeds.
+
+#![forbid(unsafe_code)]
+
+pub mod calls;
+pub mod cases;
+pub mod ordinary;
