@@ -1,7 +1,7 @@
 """What crates/ declares, by name: definitions, types, promises, proofs and edits, each with its text, in which comments and layout do not count."""
 import re
 
-STRING = r'"(?:[^"\\]|\\.)*"'
+STRING = r'"(?:[^"\\]|\\[\s\S])*"'
 QUOTED = r"\bb'(?:[^'\\]|\\.)'"
 MARKS = r"(?:(?:abbrev|unfoldable|axiom|pub) )*"
 
