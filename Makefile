@@ -12,7 +12,7 @@ test:
 	@tools/test
 
 names:
-	@python3 docs/names.py
+	@tools/names
 
 lib:
 	@rt staticlib tdisp

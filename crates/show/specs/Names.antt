@@ -1,10 +1,17 @@
 -- The names that are printed. Those of states, requests, replies and error codes are 001's. Assumes nothing.
+use mathlib.Core.List.{List, _++_}
 use Prim.Native.Nat.{ℕ}
 use Prim.Native.String.{String}
 use lib.Dec.{eqb}
+use lib.ListN.{take, replicate}
 use Rattle.rules.specs.Bytes.{if_then_else_}
 use Rattle.rules.specs.declared.Refusal.{Refusal}
+use Rattle.script.specs.Text.{ascii}
 use Rattle.script.specs.declared.digits.Wrong.{Wrong}
+
+-- a name's 32 bytes: the text, then spaces
+abbrev pub nameBytes : String → List ℕ
+nameBytes s = take 32 (ascii s ++ replicate 32 32)
 
 -- a state's
 unfoldable pub stateName : ℕ → String

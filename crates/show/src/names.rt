@@ -2,8 +2,7 @@
 use rules::Refusal;
 use script::digits::Wrong;
 ghost use mathlib.Core.Path.{_≡_};
-ghost use Rattle.script.specs.Text.{ascii, trim};
-ghost use Rattle.show.specs.Names.{stateName, requestName, replyName, errorName, refusalName, wrongName};
+ghost use Rattle.show.specs.Names.{nameBytes, stateName, requestName, replyName, errorName, refusalName, wrongName};
 
 // The states.
 const CONFIG_UNLOCKED: [u8; 32] = *b"CONFIG_UNLOCKED                 ";
@@ -103,7 +102,7 @@ const LONG: [u8; 32] = *b"too many bytes                  ";
 
 // A state's name.
 pub fn state(x: u8) -> [u8; 32]
-    ensures { λ r. ⌜ trim r ≡ ascii (stateName x) ⌝ }
+    ensures { λ r. ⌜ r ≡ nameBytes (stateName x) ⌝ }
 {
     match x {
         0 => CONFIG_UNLOCKED,
@@ -116,7 +115,7 @@ pub fn state(x: u8) -> [u8; 32]
 
 // A request's name, by its type.
 pub fn request(kind: u8) -> [u8; 32]
-    ensures { λ r. ⌜ trim r ≡ ascii (requestName kind) ⌝ }
+    ensures { λ r. ⌜ r ≡ nameBytes (requestName kind) ⌝ }
 {
     match kind {
         0x81 => GET_TDISP_VERSION,
@@ -132,7 +131,7 @@ pub fn request(kind: u8) -> [u8; 32]
 
 // A reply's name, by its type.
 pub fn reply(kind: u8) -> [u8; 32]
-    ensures { λ r. ⌜ trim r ≡ ascii (replyName kind) ⌝ }
+    ensures { λ r. ⌜ r ≡ nameBytes (replyName kind) ⌝ }
 {
     match kind {
         0x01 => TDISP_VERSION,
@@ -148,7 +147,7 @@ pub fn reply(kind: u8) -> [u8; 32]
 
 // An error code's name.
 pub fn error(code: u32) -> [u8; 32]
-    ensures { λ r. ⌜ trim r ≡ ascii (errorName code) ⌝ }
+    ensures { λ r. ⌜ r ≡ nameBytes (errorName code) ⌝ }
 {
     match code {
         0x01 => INVALID_REQUEST,
@@ -164,7 +163,7 @@ pub fn error(code: u32) -> [u8; 32]
 
 // Why a call is refused.
 pub fn refusal(why: Refusal) -> [u8; 32]
-    ensures { λ r. ⌜ trim r ≡ ascii (refusalName why) ⌝ }
+    ensures { λ r. ⌜ r ≡ nameBytes (refusalName why) ⌝ }
 {
     match why {
         Refusal::TableLength => TABLE_LENGTH,
@@ -179,7 +178,7 @@ pub fn refusal(why: Refusal) -> [u8; 32]
 
 // What is wrong with a line.
 pub fn wrong(what: Wrong) -> [u8; 32]
-    ensures { λ r. ⌜ trim r ≡ ascii (wrongName what) ⌝ }
+    ensures { λ r. ⌜ r ≡ nameBytes (wrongName what) ⌝ }
 {
     match what {
         Wrong::LongLine => LONG_LINE,

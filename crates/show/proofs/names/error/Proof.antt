@@ -3,23 +3,22 @@ use mathlib.Core.List.{List}
 use mathlib.Core.Path.{sym, ap}
 use Prim.Native.Nat.{ℕ}
 use borrow.Author.Tests.{ne-eqb}
-use Rattle.script.specs.Text.{ascii, trimmed}
-use Rattle.show.specs.Names.{errorName}
+use Rattle.show.specs.Names.{nameBytes, errorName}
 use Rattle.show.proofs.names.error.Statement.{statement}
 use Rattle.show.proofs.names.error.Tie as tie
 
 abbrev text : ℕ → List ℕ
-text x = ascii (errorName x)
+text x = nameBytes (errorName x)
 
 others : tie.Need-returns-8
-unfolding trimmed errorName
+unfolding errorName
 others c =
     let r = c .match .rest in
     rw (ne-eqb _ 1 (r .0 .0 .0 .0 .0 .0 .1), ne-eqb _ 4 (r .0 .0 .0 .0 .0 .1), ne-eqb _ 7 (r .0 .0 .0 .0 .1), ne-eqb _ 65 (r .0 .0 .0 .1))
     (rw (ne-eqb _ 257 (r .0 .0 .1), ne-eqb _ 258 (r .0 .1), ne-eqb _ 259 (r .1)))
 
 pub error-spec : {M : Type 1} → statement M
-unfolding trimmed errorName
+unfolding errorName
 error-spec =
     tie.close
     (tie.spec

@@ -3,17 +3,15 @@ use mathlib.Core.List.{List}
 use mathlib.Core.Path.{sym, ap}
 use Prim.Native.Nat.{ℕ}
 use borrow.Author.Needs.{needs}
-use Rattle.script.specs.Text.{ascii, trimmed}
 use Rattle.rules.specs.declared.Refusal.{Refusal}
-use Rattle.show.specs.Names.{refusalName}
+use Rattle.show.specs.Names.{nameBytes, refusalName}
 use Rattle.show.proofs.names.refusal.Statement.{statement}
 use Rattle.show.proofs.names.refusal.Tie as tie
 
 abbrev text : Refusal → List ℕ
-text x = ascii (refusalName x)
+text x = nameBytes (refusalName x)
 
 pub refusal-spec : {M : Type 1} → statement M
-unfolding trimmed
 refusal-spec =
     tie.close
     (tie.spec

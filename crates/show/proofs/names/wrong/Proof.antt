@@ -3,17 +3,15 @@ use mathlib.Core.List.{List}
 use mathlib.Core.Path.{sym, ap}
 use Prim.Native.Nat.{ℕ}
 use borrow.Author.Needs.{needs}
-use Rattle.script.specs.Text.{ascii, trimmed}
 use Rattle.script.specs.declared.digits.Wrong.{Wrong}
-use Rattle.show.specs.Names.{wrongName}
+use Rattle.show.specs.Names.{nameBytes, wrongName}
 use Rattle.show.proofs.names.wrong.Statement.{statement}
 use Rattle.show.proofs.names.wrong.Tie as tie
 
 abbrev text : Wrong → List ℕ
-text x = ascii (wrongName x)
+text x = nameBytes (wrongName x)
 
 pub wrong-spec : {M : Type 1} → statement M
-unfolding trimmed
 wrong-spec =
     tie.close
     (tie.spec
