@@ -3,11 +3,11 @@ use crate::ask::header;
 use crate::ask::kept;
 use crate::ask::streams;
 use crate::ask::unlocked;
-use compare::least;
 use compare::told;
 use compare::unchanged;
 use responder::respond;
 use rules::Session;
+use wire::copy::least;
 
 // A call with the first bytes of a request, of a reply buffer, of nonce bytes and of a stream map: so many of each.
 fn refused(
