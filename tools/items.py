@@ -34,7 +34,7 @@ def imports(text):
 
 def with_origins(item, origin):
     bare = re.sub(STRING, " ", item)
-    words = set(re.split(r"[\s(){}.,;]+", bare)) | set(re.findall(r"\w+", bare))
+    words = set(re.split(r"[\s(){}.,;]+", bare)) | set(re.findall(r"[\w'-]+", bare))
     return " | ".join([item] + sorted(told for parts, told in origin if parts <= words))
 
 
