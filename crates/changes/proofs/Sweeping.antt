@@ -19,7 +19,7 @@ use Rattle.rules.proofs.Joined.{sized-records, join-records, records-join}
 use Rattle.rules.proofs.Lending.{lentRecord, givenBack, lent-is, back-is}
 use Rattle.rules.proofs.Moved.{length-moved, state-differs}
 use Rattle.rules.proofs.Records.{length-records, length-record}
-use Rattle.changes.specs.Moves.{Moves}
+use Rattle.classes.specs.Moves.{Moves}
 use Rattle.rules.proofs.Swept.{one, swept, swept-ahead, swept-next, swept-all, differing-none, differing-next, sized-swept}
 
 -- of one record, at most one moves

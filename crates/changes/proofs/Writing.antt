@@ -20,7 +20,8 @@ use Rattle.rules.proofs.Lending.{lentRecord, givenBack, lent-is, back-is}
 use Rattle.rules.proofs.Lookup.{find-at}
 use Rattle.rules.proofs.Moved.{length-moved}
 use Rattle.rules.proofs.Records.{length-records, length-record}
-use Rattle.changes.specs.Moves.{Moves, MovesAt}
+use Rattle.classes.specs.Moves.{Moves}
+use Rattle.changes.specs.MovesAt.{MovesAt}
 
 module _ (t : List ℕ) (k : ℕ) (accepted : tableNumber t ≡ 0) (h : k < length t / recordBytes) where
   pub one-written : (p : Rec → Bool) (n : ℕ) (back : Rec) → Moves p (lentRecord t k) n back → MovesAt k p t n (givenBack t k back)

@@ -1,44 +1,19 @@
 // Device-wide events: multicast, stream down, session end.
-use crate::record::move_record;
+use classes::event::change_record;
 use rules::Answer;
 use rules::Event;
 use rules::Judgement;
 use rules::RECORD_BYTES;
 use rules::Session;
 use rules::Stream;
-use rules::place::SESSION;
-use rules::place::STREAM;
 use table::judge::judge;
 ghost use mathlib.Core.Path.{_≡_};
 ghost use mathlib.Core.List.{[]};
-ghost use lib.ListN.{length};
 ghost use Rattle.rules.specs.Call.{DeviceWide, changed, step, Gives};
 ghost use Rattle.rules.specs.Change.{hits};
-ghost use Rattle.rules.specs.Table.{recordBytes, tableNumber};
+ghost use Rattle.rules.specs.Table.{tableNumber};
 ghost use Rattle.rules.specs.declared.Answer.the-variants.{Served};
 ghost use Rattle.rules.specs.declared.Event.the-variants.{Multicast, StreamDown, SessionEnd};
-ghost use Rattle.changes.specs.Moves.{Moves};
-
-// Whether an event is for a record.
-fn hits(event: Event, r: &[u8]) -> bool
-    requires { ⌜ length (now r) ≡ recordBytes ⌝ }
-    ensures { λ b. ⌜ b ≡ hits event (now (r .entry)) ⌝ }
-{
-    match event {
-        Event::Multicast => true,
-        Event::StreamDown(stream) => r[STREAM] == stream.0,
-        Event::SessionEnd(session) => r[SESSION] == session.0,
-    }
-}
-
-// One record; how many moved, 0 or 1.
-fn change_record(event: Event, r: &mut [u8]) -> usize
-    requires { ⌜ length (now r) ≡ recordBytes ⌝ }
-    ensures { λ n. ⌜ Moves (hits event) (now (r .entry)) n (now (r .exit)) ⌝ }
-{
-    let hit = hits(event, r);
-    move_record(hit, r)
-}
 
 // Every record, lent in turn; how many moved.
 pub fn sweep(event: Event, table: &mut [u8]) -> usize

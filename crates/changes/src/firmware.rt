@@ -1,26 +1,15 @@
 // The firmware question: may the card's firmware be updated now?
-use crate::record::live;
+use classes::firmware::lets;
 use rules::FirmwareAnswer;
 use rules::Judgement;
 use rules::RECORD_BYTES;
-use rules::flags::LockFlags;
-use rules::place::FLAGS;
 use table::judge::judge;
-use wire::number::num16;
 ghost use mathlib.Core.Path.{_≡_};
 ghost use Prim.Native.Nat.{_<_, _/_};
 ghost use lib.ListN.{length};
 ghost use Rattle.rules.specs.Call.{FirmwareQuestion, step, Says};
 ghost use Rattle.rules.specs.Change.{lets, firmwareYes};
 ghost use Rattle.rules.specs.Table.{recordBytes, records, recordAt};
-
-// An interface in state 1 or 2 that holds NO_FW_UPDATE does not let it.
-fn lets(r: &[u8]) -> bool
-    requires { ⌜ length (now r) ≡ recordBytes ⌝ }
-    ensures { λ b. ⌜ b ≡ lets (now (r .entry)) ⌝ }
-{
-    !(live(r) & LockFlags(num16(r, FLAGS)).contains(LockFlags::NO_FW_UPDATE))
-}
 
 fn lets_at(t: &[u8], k: usize) -> bool
     requires { ⌜ k < length (now t) / recordBytes ⌝ }

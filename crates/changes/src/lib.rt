@@ -1,5 +1,4 @@
 // Changes and the firmware question: 01, "Changes".
 pub mod event;
 pub mod firmware;
-pub mod record;
 pub mod write;

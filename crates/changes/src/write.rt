@@ -1,7 +1,7 @@
 // Register writes.
 use crate::event::sweep;
-use crate::record::move_record;
-use moves::class::rule_of;
+use classes::class::rule_of;
+use classes::class::write_record;
 use rules::Answer;
 use rules::Event;
 use rules::Found;
@@ -10,12 +10,9 @@ use rules::Judgement;
 use rules::RECORD_BYTES;
 use rules::Refusal;
 use rules::Rule;
-use rules::flags::LockFlags;
-use rules::place::FLAGS;
 use table::find::find;
 use table::judge::judge;
 use wire::identity::identity_of;
-use wire::number::num16;
 ghost use mathlib.Core.Path.{_≡_};
 ghost use mathlib.Core.List.{[]};
 ghost use Prim.Native.Nat.{_<_, _/_};
@@ -25,29 +22,7 @@ ghost use Rattle.rules.specs.Change.{ruleHits, writeHits};
 ghost use Rattle.rules.specs.Table.{recordBytes, records, find, tableNumber};
 ghost use Rattle.rules.specs.declared.Answer.the-variants.{Served};
 ghost use Rattle.rules.specs.declared.Found.the-variants.{At};
-ghost use Rattle.changes.specs.Moves.{Moves, MovesAt};
-
-// Whether a write by a rule is for the record that it names: class 2 only under LOCK_MSIX.
-fn rule_hits(rule: Rule, r: &[u8]) -> bool
-    requires { ⌜ length (now r) ≡ recordBytes ⌝ }
-    ensures { λ b. ⌜ b ≡ ruleHits rule (now (r .entry)) ⌝ }
-{
-    match rule {
-        Rule::Allowed => false,
-        Rule::MsixRule => LockFlags(num16(r, FLAGS)).contains(LockFlags::LOCK_MSIX),
-        Rule::DeviceWide => true,
-        Rule::Error => true,
-    }
-}
-
-// One record; how many moved, 0 or 1.
-fn write_record(rule: Rule, r: &mut [u8]) -> usize
-    requires { ⌜ length (now r) ≡ recordBytes ⌝ }
-    ensures { λ n. ⌜ Moves (ruleHits rule) (now (r .entry)) n (now (r .exit)) ⌝ }
-{
-    let hit = rule_hits(rule, r);
-    move_record(hit, r)
-}
+ghost use Rattle.changes.specs.MovesAt.{MovesAt};
 
 // Lends record k on, to be written; no other byte of the table is lent.
 fn write_at(k: usize, rule: Rule, table: &mut [u8]) -> usize

@@ -1,3 +1,2 @@
-// What becomes of a record: locked, running, cleared; and the class table of register writes.
-pub mod class;
+// What becomes of a record: locked, running, cleared.
 pub mod record;

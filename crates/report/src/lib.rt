@@ -1,5 +1,4 @@
 // Interface reports: read and written.
-mod content;
 pub mod fields;
 pub mod put;
 pub mod read;

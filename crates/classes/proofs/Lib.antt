@@ -1,0 +1,4 @@
+-- Laws that belong to no one function.
+pub mod OverRange
+pub mod Hitting
+pub mod Moving

@@ -1,0 +1,2 @@
+-- What the functions of this crate do, in the words of rules.
+pub mod Moves
