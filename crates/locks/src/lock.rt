@@ -1,5 +1,5 @@
 // 83h LOCK_INTERFACE.
-use moves::record::lock;
+use moves::record::lock_record;
 use records::lock::offset_ok;
 use replies::put_error;
 use replies::put_message;
@@ -59,6 +59,6 @@ pub fn lock_interface(
     if !ready {
         return put_error(INSUFFICIENT_ENTROPY, 0, request, reply);
     }
-    lock(r, request, nonce, session);
+    lock_record(r, request, nonce, session);
     put_message(0x03, request, nonce, reply)
 }

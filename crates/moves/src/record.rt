@@ -1,5 +1,6 @@
 // A record's changes: cleared, running, locked.
 use rules::Session;
+use rules::Stream;
 use rules::flags::LockFlags;
 use rules::place::NONCE;
 use rules::place::OFFSET;
@@ -48,20 +49,22 @@ pub fn run(r: &mut [u8])
 }
 
 // State 1, nonce held, the flags that are stored, stream and session: record bytes 4-9.
-fn lock_head(flags: u16, stream: u8, session: Session) -> [u8; 6]
-    ensures { λ r. ⌜ r ≡ CONFIG_LOCKED ∷ 1 ∷ bytesOf 2 (stored flags) ++ (stream ∷ session .0 ∷ []) ⌝ }
+fn lock_head(flags: LockFlags, stream: Stream, session: Session) -> [u8; 6]
+    ensures { λ r. ⌜ r ≡ CONFIG_LOCKED ∷ 1 ∷ bytesOf 2 (stored (flags .0)) ++ (stream .0 ∷ session .0 ∷ []) ⌝ }
 {
-    let mut head = [CONFIG_LOCKED, 1, 0, 0, stream, session.0];
-    put16(&mut head, 2, LockFlags(flags).stored().0);
+    let mut head = [CONFIG_LOCKED, 1, 0, 0, stream.0, session.0];
+    put16(&mut head, 2, flags.stored().0);
     head
 }
 
 // CONFIG_LOCKED, as a lock request asks.
-pub fn lock(r: &mut [u8], request: &[u8], nonce: &[u8], session: Session)
+pub fn lock_record(r: &mut [u8], request: &[u8], nonce: &[u8], session: Session)
     requires { ⌜ (length (now r) ≡ recordBytes) × (36 ≤ length (now request)) × (length (now nonce) ≡ 32) ⌝ }
     ensures { λ _. ⌜ now (r .exit) ≡ locked (now (request .entry)) (now (nonce .entry)) session (now (r .entry)) ⌝ }
 {
-    let head = lock_head(num16(request, LOCK_FLAGS), request[LOCK_STREAM], session);
+    let flags = LockFlags(num16(request, LOCK_FLAGS));
+    let stream = Stream(request[LOCK_STREAM]);
+    let head = lock_head(flags, stream, session);
     copy_over(r, STATE, &head);
     put64(r, OFFSET, num64(request, LOCK_OFFSET));
     copy_over(r, NONCE, nonce);

@@ -5,6 +5,8 @@ use ranges::range::least_after;
 use ranges::range::range_from;
 use rules::PAGES_END;
 use rules::Range;
+use rules::bit::ATTRIBUTES_UNUSED_FROM;
+use rules::bit::ATTRIBUTES_UNUSED_VALUES;
 use rules::place::MOST_RANGES;
 use rules::place::RANGE_BYTES;
 use rules::place::RANGE_COUNT;
@@ -52,7 +54,7 @@ fn ranges_keep(s: &[u8], base: usize, n: usize, low: u64, top: u64) -> bool
         least = least_after(least, id);
         k += 1;
     }
-    gathered / 16 % 4096 == 0
+    gathered / ATTRIBUTES_UNUSED_FROM % ATTRIBUTES_UNUSED_VALUES == 0
 }
 
 // A record's places. The count is tested just before the loop, so that the compiler unrolls it.

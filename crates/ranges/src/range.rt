@@ -1,6 +1,8 @@
 // Ranges of pages, of a record or of a report: eight of them, of which n count.
 use rules::PAGES_END;
 use rules::Range;
+use rules::bit::ATTRIBUTES_UNUSED_FROM;
+use rules::bit::ATTRIBUTES_UNUSED_VALUES;
 use rules::place::RANGE_BYTES;
 use wire::number::num16;
 use wire::number::num32;
@@ -60,7 +62,7 @@ fn pages_ok(range: Range) -> bool
 fn attributes_ok(range: Range) -> bool
     ensures { λ b. ⌜ b ≡ attributesOk range ⌝ }
 {
-    range.attributes / 16 % 4096 == 0
+    range.attributes / ATTRIBUTES_UNUSED_FROM % ATTRIBUTES_UNUSED_VALUES == 0
 }
 
 // The pages of n ranges keep their rule.

@@ -1,5 +1,15 @@
 // Whether a record keeps its rules.
 use crate::lock::lock_ok;
+use rules::bit::ID_UNUSED_FROM;
+use rules::bit::ID_UNUSED_VALUES;
+use rules::bit::INFO_UNUSED_FROM;
+use rules::bit::INFO_UNUSED_VALUES;
+use rules::bit::INFO_UPDATE_VALUES;
+use rules::place::AFTER_COUNT;
+use rules::place::AFTER_LNR;
+use rules::place::AFTER_LNR_LAST;
+use rules::place::AFTER_OFFSET;
+use rules::place::AFTER_OFFSET_LAST;
 use rules::place::FUNCTION_ID;
 use rules::place::HELD;
 use rules::place::INFORMATION;
@@ -30,7 +40,7 @@ fn identity_ok(r: &[u8]) -> bool
 {
     let id = num32(r, FUNCTION_ID);
     let who = identity_of(id);
-    (id / 33554432 % 128 == 0) & (who.valid | (who.segment == 0))
+    (id / ID_UNUSED_FROM % ID_UNUSED_VALUES == 0) & (who.valid | (who.segment == 0))
 }
 
 fn nonce_ok(r: &[u8]) -> bool
@@ -49,14 +59,14 @@ fn interface_ok(r: &[u8]) -> bool
     ensures { λ b. ⌜ b ≡ interfaceOk (now (r .entry)) ⌝ }
 {
     let info = num16(r, INTERFACE_INFO);
-    (info % 2 == 0) & (info / 32 % 2048 == 0)
+    (info % INFO_UPDATE_VALUES == 0) & (info / INFO_UNUSED_FROM % INFO_UNUSED_VALUES == 0)
 }
 
 fn unused_ok(r: &[u8]) -> bool
     requires { ⌜ length (now r) ≡ recordBytes ⌝ }
     ensures { λ b. ⌜ b ≡ unusedOk (now (r .entry)) ⌝ }
 {
-    zero(r, 18, 19) & zero(r, 32, 39)
+    zero(r, AFTER_LNR, AFTER_LNR_LAST) & zero(r, AFTER_OFFSET, AFTER_OFFSET_LAST)
 }
 
 // The length, and zero past it: nothing stands past 52 bytes.
@@ -76,7 +86,7 @@ fn head_ok(r: &[u8]) -> bool
     requires { ⌜ length (now r) ≡ recordBytes ⌝ }
     ensures { λ b. ⌜ b ≡ (identityOk (functionId (now (r .entry))) && stateOk (now (r .entry)) && nonceOk (now (r .entry)) && eqb (byte (now (r .entry)) 11) 0) ⌝ }
 {
-    identity_ok(r) & (r[STATE] <= ERROR) & nonce_ok(r) & (r[11] == 0)
+    identity_ok(r) & (r[STATE] <= ERROR) & nonce_ok(r) & (r[AFTER_COUNT] == 0)
 }
 
 // INTERFACE_INFO, and the bytes that are not used.

@@ -1,4 +1,5 @@
 // The types and the sizes that code and definitions share. Nothing here knows how the code works.
+pub mod bit;
 pub mod flags;
 pub mod place;
 pub mod report;

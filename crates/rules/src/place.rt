@@ -1,4 +1,4 @@
-// Where a record's fields stand, first and last byte: 01, "The table".
+// Where a record's fields stand, first and last byte: 01, "The table". The bytes after the range count, the LNR control and the offset are unused.
 pub const FUNCTION_ID: usize = 0;
 
 pub const STATE: usize = 4;
@@ -13,17 +13,27 @@ pub const SESSION: usize = 9;
 
 pub const RANGE_COUNT: usize = 10;
 
+pub const AFTER_COUNT: usize = 11;
+
 pub const INTERFACE_INFO: usize = 12;
 
 pub const MSIX_CONTROL: usize = 14;
 
 pub const LNR_CONTROL: usize = 16;
 
+pub const AFTER_LNR: usize = 18;
+
+pub const AFTER_LNR_LAST: usize = 19;
+
 pub const TPH_CONTROL: usize = 20;
 
 pub const OFFSET: usize = 24;
 
 pub const OFFSET_LAST: usize = 31;
+
+pub const AFTER_OFFSET: usize = 32;
+
+pub const AFTER_OFFSET_LAST: usize = 39;
 
 pub const NONCE: usize = 40;
 

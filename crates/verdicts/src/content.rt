@@ -4,6 +4,8 @@ use ranges::range::all_pages;
 use ranges::range::never_fall;
 use rules::Range;
 use rules::ReportVerdict;
+use rules::bit::INFO_UNUSED_FROM;
+use rules::bit::INFO_UNUSED_VALUES;
 ghost use mathlib.Core.Path.{_≡_};
 ghost use Prim.Native.Nat.{_≤_};
 ghost use Rattle.rules.specs.Range.{mostRanges, rangeIn};
@@ -29,7 +31,7 @@ pub fn content_verdict(info: u16, ranges: [Range; 8], n: usize) -> ReportVerdict
     requires { ⌜ n ≤ mostRanges ⌝ }
     ensures { λ r. ⌜ reportNumber r ≡ contentNumber info n (rangeIn ranges) ⌝ }
 {
-    if !((info / 32 % 2048 == 0) & all_attributes(ranges, n)) {
+    if !((info / INFO_UNUSED_FROM % INFO_UNUSED_VALUES == 0) & all_attributes(ranges, n)) {
         return ReportVerdict::Reserved;
     }
     if !all_pages(ranges, n) {

@@ -2,6 +2,11 @@
 use crate::number::num32;
 use rules::Identity;
 use rules::Requester;
+use rules::bit::REQUESTER_VALUES;
+use rules::bit::SEGMENT_FROM;
+use rules::bit::SEGMENT_VALUES;
+use rules::bit::VALID_FROM;
+use rules::bit::VALID_VALUES;
 ghost use mathlib.Core.Path.{_≡_};
 ghost use Prim.Native.Nat.{_+_, _≤_};
 ghost use lib.ListN.{length};
@@ -11,9 +16,9 @@ pub fn identity_of(id: u32) -> Identity
     ensures { λ r. ⌜ r ≡ identityOf id ⌝ }
 {
     Identity {
-        requester: Requester((id % 65536) as u16),
-        segment: (id / 65536 % 256) as u8,
-        valid: id / 16777216 % 2 == 1,
+        requester: Requester((id % REQUESTER_VALUES) as u16),
+        segment: (id / SEGMENT_FROM % SEGMENT_VALUES) as u8,
+        valid: id / VALID_FROM % VALID_VALUES == 1,
     }
 }
 

@@ -37,7 +37,7 @@ fn header_error(name: &[u8], version: u8, kind: u8, requester: u8, code: u32, da
 }
 
 // Version, type, length and interface.
-fn headers() {
+fn header_errors() {
     header_error(
         b"error 41h for version 11h, type 81h",
         0x11,
@@ -83,7 +83,7 @@ fn lock_error(name: &[u8], flags: u8, stream: u8, offset: u8, ready: bool, code:
     error(name, &q, unlocked(), ready, error_reply(1, code, 0));
 }
 
-fn lock() {
+fn lock_errors() {
     lock_error(b"error 01h for a lock with flag bit 1", 2, 3, 0, true, 0x01);
     lock_error(b"error 01h for a lock with offset 1", 0, 3, 1, true, 0x01);
     lock_error(
@@ -126,7 +126,7 @@ fn start_error(name: &[u8], first: u8, last: u8, before: [u8; 256], code: u32) {
 }
 
 // The second start differs from the nonce in the last byte alone.
-fn start() {
+fn start_errors() {
     start_error(b"error 04h for a start in state 0", 0, 0, unlocked(), 0x04);
     start_error(
         b"error 102h for a start with another nonce",
@@ -138,7 +138,7 @@ fn start() {
 }
 
 pub(crate) fn cases() {
-    headers();
-    lock();
-    start();
+    header_errors();
+    lock_errors();
+    start_errors();
 }

@@ -1,14 +1,14 @@
--- `lock` meets its contract. Assumes nothing.
+-- `lock_record` meets its contract. Assumes nothing.
 use borrow.Author.Needs.{needs}
 use Rattle.rules.proofs.Messages.{locked-written}
-use Rattle.moves.proofs.record.lock.Statement.{statement}
-use Rattle.moves.proofs.record.lock.Tie as tie
+use Rattle.moves.proofs.record.lock_record.Statement.{statement}
+use Rattle.moves.proofs.record.lock_record.Tie as tie
 
 returns : tie.Need-returns
 returns c = search locked-written
 
-pub lock-spec : {M : Type 1} → statement M
-lock-spec =
+pub lock-record-spec : {M : Type 1} → statement M
+lock-record-spec =
     tie.close
     (tie.spec
     (λ c κs. search needs)
