@@ -1,5 +1,7 @@
 // The ranges in a record's eight places, in one pass: their own rules, and whether an offset leaves each of them within the pages. Every
 // call asks this of every record, so it asks by limits and not range by range as `ranges::offset::all_stay` does.
+use ranges::offset::offset_pages;
+use ranges::offset::whole_pages;
 use ranges::range::id_of;
 use ranges::range::least_after;
 use ranges::range::range_from;
@@ -18,9 +20,8 @@ ghost use mathlib.Core.Bool.{_&&_};
 ghost use Prim.Native.Nat.{_+_, _*_, _≤_, _^_};
 ghost use lib.Dec.{leb};
 ghost use lib.ListN.{length};
-ghost use Rattle.rules.specs.Lock.{signed, allStay};
 ghost use Rattle.rules.specs.Range.{mostRanges, rangeBytes, rangesFrom};
-ghost use Rattle.rules.specs.Record.{rangeCount, rangeOf, rangesOk};
+ghost use Rattle.rules.specs.Record.{rangeCount, rangesOk, offsetOk};
 ghost use Rattle.rules.specs.Table.{recordBytes};
 ghost use Rattle.places.specs.Limits.{inside, rangesKeep, placesKeep};
 
@@ -57,7 +58,7 @@ fn ranges_keep(s: &[u8], base: usize, n: usize, low: u64, top: u64) -> bool
     gathered / ATTRIBUTES_UNUSED_FROM % ATTRIBUTES_UNUSED_VALUES == 0
 }
 
-// A record's places. The count is tested just before the loop, so that the compiler unrolls it.
+// A record's places: the count, its ranges between limits, and zero past them.
 fn places_keep(r: &[u8], low: u64, top: u64) -> bool
     requires { ⌜ (length (now r) ≡ recordBytes) × (2 ^ 32 ≤ top) ⌝ }
     ensures { λ b. ⌜ b ≡ placesKeep low top (now (r .entry)) ⌝ }
@@ -72,16 +73,19 @@ fn places_keep(r: &[u8], low: u64, top: u64) -> bool
     zero(r, RANGES + n * RANGE_BYTES, RANGES_LAST)
 }
 
-// A record's range count, its ranges and the places past them; and whether every range stays, with the offset of an 8-byte number.
-// An offset that is not below zero lowers the end, to 2^52 - x / 4096, written so that the compiler forms it once and not for each range; one
-// below zero raises the start.
+// A record's range count, its ranges and the places past them; and the lock's rule, for the offset of an 8-byte number. The limits come
+// from its pages: below zero they raise the start, else they lower the end.
 pub fn places_ok(r: &[u8], x: u64) -> bool
     requires { ⌜ length (now r) ≡ recordBytes ⌝ }
-    ensures { λ b. ⌜ b ≡ (leb (rangeCount (now (r .entry))) mostRanges && rangesOk (now (r .entry)) && allStay (signed x) (rangeCount (now (r .entry))) (rangeOf (now (r .entry)))) ⌝ }
+    ensures { λ b. ⌜ b ≡ (leb (rangeCount (now (r .entry))) mostRanges && rangesOk (now (r .entry)) && offsetOk (now (r .entry)) x) ⌝ }
 {
-    if x < 9223372036854775808 {
-        places_keep(r, 0, (18446744073709551615 - x) / 4096 + 1)
+    if !whole_pages(x) {
+        return false;
+    }
+    let pages = offset_pages(x);
+    if pages < 0 {
+        places_keep(r, (0 - pages) as u64, PAGES_END)
     } else {
-        places_keep(r, (18446744073709551615 - x + 1) / 4096, PAGES_END)
+        places_keep(r, 0, PAGES_END - (pages as u64))
     }
 }

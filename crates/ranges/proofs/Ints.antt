@@ -52,7 +52,7 @@ remainder-zero : (z : ℤ) → eqb (ofZ w64 (remZ z (pos 4096))) 0 ≡ wholePage
 remainder-zero (pos a) = refl
 remainder-zero (negsuc a) = negative-bits (suc a % 4096) (omega arith)
 
--- what the code's local holds of the offset is the offset
+-- what the code's locals hold is the offset, and its quotient
 module _ (z : ℤ) (k : SFits w64 z) where
   quotient-held : quotZ (toZ w64 (ofZ w64 z)) (pos 4096) ≡ quotZ z (pos 4096)
   quotient-held = ap (λ (x : ℤ). quotZ x (pos 4096)) (toZ-ofZ k)
@@ -63,17 +63,31 @@ module _ (z : ℤ) (k : SFits w64 z) where
   pub quotient-fits : SFits w64 (quotZ (toZ w64 (ofZ w64 z)) (pos 4096))
   quotient-fits = subst⁻¹ (SFits w64) quotient-held fits
 
+  pub quotient-is : toZ w64 (ofZ w64 (quotZ (toZ w64 (ofZ w64 z)) (pos 4096))) ≡ quotZ z (pos 4096)
+  quotient-is = toZ-ofZ quotient-fits ∙ quotient-held
+
+  pub quotient-bound : mag (toZ w64 (ofZ w64 (quotZ (toZ w64 (ofZ w64 z)) (pos 4096)))) ≤ 2 ^ 51
+  quotient-bound = subst⁻¹ (λ (x : ℤ). mag x ≤ 2 ^ 51) quotient-is (quotient-small z k)
+
   pub whole-test : eqb (ofZ w64 (remZ (toZ w64 (ofZ w64 z)) (pos 4096))) 0 ≡ wholePages z
   whole-test = ap (λ (x : ℤ). eqb (ofZ w64 (remZ x (pos 4096))) 0) (toZ-ofZ k) ∙ remainder-zero z
 
--- ---- the sum of a page and the quotient
+-- and so of a number of pages
+module _ (z : ℤ) (small : mag z ≤ 2 ^ 51) where
+  pub held : toZ w64 (ofZ w64 z) ≡ z
+  held = toZ-ofZ (record { sfits = lt-of-le-of-lt small (lit< tt) })
+
+  pub held-small : mag (toZ w64 (ofZ w64 z)) ≤ 2 ^ 51
+  held-small = subst⁻¹ (λ (x : ℤ). mag x ≤ 2 ^ 51) held small
+
+-- ---- the sum of a page and a number of pages
 
 abbrev pub sum : ℕ → ℤ → ℤ
-sum first z = pos first +ℤ quotZ z (pos 4096)
+sum first z = pos first +ℤ z
 
 -- as the code's locals hold it
 abbrev rawSum : ℕ → ℤ → ℤ
-rawSum first z = toZ w64 first +ℤ toZ w64 (ofZ w64 (quotZ (toZ w64 (ofZ w64 z)) (pos 4096)))
+rawSum first z = toZ w64 first +ℤ toZ w64 (ofZ w64 z)
 
 abbrev pub heldSum : ℕ → ℤ → ℤ
 heldSum first z = toZ w64 (ofZ w64 (rawSum first z))
@@ -90,15 +104,14 @@ natAbs-small : (s : ℤ) → mag s < 2 ^ 53 → natAbs s ≤ 2 ^ 53
 natAbs-small (pos a) h = omega arith
 natAbs-small (negsuc a) h = omega arith
 
-module _ (z : ℤ) (k : SFits w64 z) (first : ℕ) (h : first ≤ 2 ^ 52) where
+module _ (z : ℤ) (first : ℕ) (h : (first ≤ 2 ^ 52) × (mag z ≤ 2 ^ 51)) where
   raw-is : rawSum first z ≡ sum first z
   raw-is =
-      ap (λ (x : ℤ). toZ w64 first +ℤ toZ w64 (ofZ w64 x)) (quotient-held z k)
-      ∙ ap (λ (x : ℤ). toZ w64 first +ℤ x) (toZ-ofZ (fits z k))
-      ∙ ap (λ (x : ℤ). x +ℤ quotZ z (pos 4096)) (toZ-pos w64 (omega arith))
+      ap (λ (x : ℤ). toZ w64 first +ℤ x) (held z (h .1))
+      ∙ ap (λ (x : ℤ). x +ℤ z) (toZ-pos w64 (omega arith))
 
   small : mag (sum first z) < 2 ^ 53
-  small = sum-small first (quotZ z (pos 4096)) h (quotient-small z k)
+  small = sum-small first z (h .0) (h .1)
 
   sum-fits : SFits w64 (sum first z)
   sum-fits = record { sfits = lt-trans small (lit< tt) }

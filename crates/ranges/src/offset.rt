@@ -8,10 +8,10 @@ use rules::place::RANGE_COUNT;
 use rules::place::RANGES;
 ghost use mathlib.Core.Path.{_≡_};
 ghost use mathlib.Core.Bool.{true};
-ghost use Prim.Native.Nat.{_≤_};
+ghost use Prim.Native.Nat.{_≤_, _^_};
 ghost use lib.ListN.{length};
 ghost use lib.IntN.{pos, _+ℤ_};
-ghost use lib.Signed.{quotZ};
+ghost use lib.Signed.{mag, quotZ};
 ghost use Rattle.rules.specs.Range.{mostRanges, pagesEnd, pagesOk};
 ghost use Rattle.rules.specs.Lock.{pageBytes, signed, wholePages, fitted, shifted, stays, allStay};
 ghost use Rattle.rules.specs.Record.{rangeCount, rangeOf, rangesOk};
@@ -19,23 +19,34 @@ ghost use Rattle.rules.specs.Table.{recordBytes};
 
 const PAGE_BYTES: i64 = 4096;
 
-// Two's complement.
+// Two's complement: numbers from 2^63 on stand for those below zero, and the last, 2^64 - 1, for -1.
+const BELOW_ZERO: u64 = 9223372036854775808;
+
+const MINUS_ONE: u64 = 18446744073709551615;
+
 fn signed(x: u64) -> i64
     ensures { λ r. ⌜ r ≡ signed x ⌝ }
 {
-    if x < 9223372036854775808 {
+    if x < BELOW_ZERO {
         x as i64
     } else {
-        -1 - ((18446744073709551615 - x) as i64)
+        -1 - ((MINUS_ONE - x) as i64)
     }
 }
 
-// The first page moved by the offset's pages, at least 0 and, with the pages added, at most 2^52.
-fn shift_by(offset: i64, first: u64, pages: u32) -> Shifted
-    requires { ⌜ first ≤ pagesEnd ⌝ }
-    ensures { λ r. ⌜ r ≡ fitted (pos first +ℤ quotZ offset (pos pageBytes)) pages ⌝ }
+// The pages by which the offset moves a range: it is divided by 4096, exactly where it is a multiple.
+pub fn offset_pages(x: u64) -> i64
+    ensures { λ r. ⌜ (r ≡ quotZ (signed x) (pos pageBytes)) × (mag r ≤ 2 ^ 51) ⌝ }
 {
-    let moved = (first as i64) + offset / PAGE_BYTES;
+    signed(x) / PAGE_BYTES
+}
+
+// The first page moved by so many pages, at least 0 and, with the range's pages added, at most 2^52.
+fn shift_by(by: i64, first: u64, pages: u32) -> Shifted
+    requires { ⌜ (first ≤ pagesEnd) × (mag by ≤ 2 ^ 51) ⌝ }
+    ensures { λ r. ⌜ r ≡ fitted (pos first +ℤ by) pages ⌝ }
+{
+    let moved = (first as i64) + by;
     if moved < 0 {
         return Shifted::Out;
     }
@@ -65,7 +76,7 @@ pub fn shift(x: u64, range: Range) -> Shifted
     requires { ⌜ range .first ≤ pagesEnd ⌝ }
     ensures { λ r. ⌜ r ≡ shifted (signed x) range ⌝ }
 {
-    shift_by(signed(x), range.first, range.pages)
+    shift_by(offset_pages(x), range.first, range.pages)
 }
 
 fn stays(s: Shifted) -> bool

@@ -18,7 +18,6 @@ ghost use Prim.Native.Nat.{_≤_};
 ghost use lib.Dec.{eqb, leb};
 ghost use lib.ListN.{length};
 ghost use Rattle.rules.specs.Bytes.{if_then_else_, zeros};
-ghost use Rattle.rules.specs.Lock.{signed, wholePages};
 ghost use Rattle.rules.specs.Range.{mostRanges};
 ghost use Rattle.rules.specs.Record.{CONFIG_UNLOCKED, ERROR, state, flags, rangeCount, flagsOk, rangesOk, offsetOk, lockOk};
 ghost use Rattle.rules.specs.Table.{recordBytes};
@@ -38,20 +37,20 @@ pub fn offset_ok(r: &[u8], offset: u64) -> bool
     whole_pages(offset) & all_stay(offset, r)
 }
 
-// The lock's fields without its ranges; offset is the record's.
+// The lock's fields without the lock's rule; offset is the record's.
 fn fields_ok(r: &[u8], offset: u64) -> bool
     requires { ⌜ length (now r) ≡ recordBytes ⌝ }
-    ensures { λ b. ⌜ b ≡ (if eqb (state (now (r .entry))) CONFIG_UNLOCKED || eqb (state (now (r .entry))) ERROR then zeros (now (r .entry)) 6 9 && eqb offset 0 else flagsOk (flags (now (r .entry))) && wholePages (signed offset)) ⌝ }
+    ensures { λ b. ⌜ b ≡ (if eqb (state (now (r .entry))) CONFIG_UNLOCKED || eqb (state (now (r .entry))) ERROR then zeros (now (r .entry)) 6 9 && eqb offset 0 else flagsOk (flags (now (r .entry)))) ⌝ }
 {
     let unlocked = (r[STATE] == CONFIG_UNLOCKED) | (r[STATE] == ERROR);
     if unlocked {
         zero(r, FLAGS, SESSION) & (offset == 0)
     } else {
-        flags_ok(num16(r, FLAGS)) & whole_pages(offset)
+        flags_ok(num16(r, FLAGS))
     }
 }
 
-// The range count, the ranges and the lock's fields: one pass over the ranges tells of both, for an offset of zero moves no range.
+// The range count, the ranges and the lock's fields: one pass over the ranges tells of both, for an offset of zero meets the lock's rule.
 pub(crate) fn lock_ok(r: &[u8]) -> bool
     requires { ⌜ length (now r) ≡ recordBytes ⌝ }
     ensures { λ b. ⌜ b ≡ (leb (rangeCount (now (r .entry))) mostRanges && rangesOk (now (r .entry)) && lockOk (now (r .entry))) ⌝ }

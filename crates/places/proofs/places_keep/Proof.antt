@@ -1,7 +1,7 @@
 -- `places_keep` meets its contract: a way out for each test. Assumes nothing.
 use native.Mathlib.Omega.{arith}
 use borrow.Author.Needs.{needs}
-use Rattle.places.proofs.Limits.{too-many, none-keeps, all-keep}
+use Rattle.places.proofs.OnePass.{too-many, none-keeps, all-keep}
 use Rattle.places.proofs.places_keep.Statement.{statement}
 use Rattle.places.proofs.places_keep.Tie as tie
 

@@ -6,7 +6,7 @@ use borrow.Author.Needs.{needs}
 use Rattle.rules.specs.Range.{rangesFrom, allAttributes, idsOf, neverFall}
 use Rattle.places.specs.Limits.{allInside}
 use Rattle.ranges.proofs.Falls.{StandsFor, none-yet, one-more, no-fall, no-fall-yet}
-use Rattle.places.proofs.Limits.{clean, gathered-none, gathered-next, inside-none, inside-next, outside, id-falls, all-passed}
+use Rattle.places.proofs.OnePass.{clean, gathered-none, gathered-next, inside-none, inside-next, outside, id-falls, all-passed}
 use Rattle.places.proofs.ranges_keep.Statement.{statement}
 use Rattle.places.proofs.ranges_keep.Tie as tie
 

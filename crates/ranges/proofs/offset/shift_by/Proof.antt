@@ -5,34 +5,31 @@ use Prim.Native.Nat.{_+_, _≤_, _<_, _^_}
 use native.Mathlib.Omega.{arith}
 use mir.Syntax.{w64}
 use mir.Val.{Fits}
-use lib.Dec.{T, lit<}
+use lib.Dec.{T}
 use lib.IntN.{ℤ, pos, natAbs}
 use lib.Signed.{ltZ, nonNeg}
 use borrow.Author.Needs.{needs}
 use Rattle.rules.specs.declared.Shifted.the-variants.{Page}
-use Rattle.ranges.proofs.Ints.{sum, heldSum, quotient-fits, moved-fits, page-small, held-is, below, at-least, inside, past}
+use Rattle.ranges.proofs.Ints.{sum, heldSum, moved-fits, page-small, held-is, below, at-least, inside, past}
 use Rattle.ranges.proofs.offset.shift_by.Statement.{statement}
 use Rattle.ranges.proofs.offset.shift_by.Tie as tie
 
 -- the sum, and that it is what the local holds
 module _ (c : tie.Start) where
   abbrev S : ℤ
-  S = sum (c .args .first) (c .args .offset)
+  S = sum (c .args .first) (c .args .by)
 
-  is : heldSum (c .args .first) (c .args .offset) ≡ S
-  is = held-is _ (c .fits .offset) _ (c .pre)
+  is : heldSum (c .args .first) (c .args .by) ≡ S
+  is = held-is (c .args .by) (c .args .first) (c .pre)
 
   bound : natAbs S ≤ 2 ^ 53
-  bound = page-small _ (c .fits .offset) _ (c .pre)
+  bound = page-small (c .args .by) (c .args .first) (c .pre)
 
 not-below : (c : tie.Else1) → T (nonNeg (S (c .before)))
 not-below c = at-least (S (c .before)) (subst (λ (s : ℤ). ltZ s (pos 0) ≡ false) (is (c .before)) (c .if1 .left))
 
-div-moved : tie.Need-div-moved
-div-moved c = (lit< tt, quotient-fits _ (c .fits .offset))
-
 add-moved : tie.Need-add-moved
-add-moved c = moved-fits _ (c .fits .offset) _ (c .pre)
+add-moved c = moved-fits (c .args .by) (c .args .first) (c .pre)
 
 returns : tie.Need-returns
 returns c = below (S (c .before)) _ (subst (λ (s : ℤ). ltZ s (pos 0) ≡ true) (is (c .before)) (c .if1 .taken))
@@ -63,7 +60,6 @@ shift-by-spec =
     tie.close
     (tie.spec
     (λ c. search needs)
-    div-moved
     add-moved
     returns
     cast-page

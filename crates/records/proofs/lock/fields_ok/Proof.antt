@@ -7,7 +7,7 @@ returns : tie.Need-returns
 returns c = rw (c .before .if1 .taken, c .zero .ensures)
 
 returns-2 : tie.Need-returns-2
-returns-2 c = rw (c .before .before .before .if1 .left, c .before .flags-ok .ensures, c .before .before .num16 .ensures, c .whole-pages .ensures)
+returns-2 c = rw (c .before .before .if1 .left, c .flags-ok .ensures, c .before .num16 .ensures)
 
 pub fields-ok-spec : {M : Type 1} → statement M
 fields-ok-spec =
@@ -15,7 +15,6 @@ fields-ok-spec =
     (tie.spec
     (λ c. search needs)
     (λ c. search needs)
-    (λ c κs. search needs)
     (λ c κs. search needs)
     (λ c κs. search needs)
     (λ c κs. search needs)
