@@ -3,12 +3,10 @@ use mathlib.Core.Path.{_≡_, refl}
 use mathlib.Core.Bool.{Bool, true, false, not, _&&_}
 use mathlib.Core.List.{List, []}
 use Prim.Native.Nat.{ℕ, _≤_}
-use native.Mathlib.Nat.{zero-add}
 use native.Mathlib.Omega.{arith}
 use borrow.Author.Tests.{eqb-true, ltb-false, not-false}
 use lib.Dec.{eqb, ltb}
 use lib.ListN.{length, drop}
-use lib.Seq.{drop-at}
 use Rattle.rules.specs.Bytes.{if_then_else_, over}
 use Rattle.rules.specs.Call.{Outcome, refused, carriedOut, onAccepted, changed, leastReply, leastRequest, answered, registerWritten, happened, firmwareAsked, Call, Request, RegisterWrite, DeviceWide, FirmwareQuestion, step}
 use Rattle.rules.specs.Change.{ruleOf, writeHits}
@@ -25,11 +23,7 @@ use Rattle.rules.proofs.Parts.{length-over}
 use Rattle.rules.proofs.ReplyLengths.{error-short, effect-short}
 use Rattle.demands.specs.Answers.{lines, firstOf, Fixed, AnswersFixed}
 use Rattle.demands.specs.Machine.{bufferOf}
-
--- a reply at the front leaves the rest
-rest-stays : (m buffer : List ℕ) → drop (length m) (over 0 m buffer) ≡ drop (length m) buffer
-unfolding over
-rest-stays m buffer = rw zero-add (drop-at m (drop (length m) buffer) (length m) refl)
+use Rattle.demands.proofs.Lists.{rest-stays}
 
 -- ---- a call's answer, where the lines give the number
 
@@ -66,7 +60,7 @@ module _ (c : Call) (t : List ℕ) where
   -- with a reply that the buffer has room for,
   replies : (m after : List ℕ) → length m ≤ length buffer → 0 ≡ number
       → Fixed c t (record { number = 0; value = length m; reply = over 0 m buffer; table = after })
-  replies m after h = serves (length m) (over 0 m buffer) after (length-over 0 m buffer (omega arith)) (rest-stays m buffer)
+  replies m after h = serves (length m) (over 0 m buffer) after (length-over 0 m buffer (omega arith)) (rest-stays m buffer (length m) (omega arith))
 
   -- and with none
   counts : (n : ℕ) (after : List ℕ) → 0 ≡ number → Fixed c t (record { number = 0; value = n; reply = buffer; table = after })

@@ -1,9 +1,9 @@
 -- The demands, proved of `step`, and the wrong responders that they refuse.
+pub mod Lists
 pub mod Answers
 pub mod Exactly
 pub mod Reports
 pub mod Lookups
-pub mod Lists
 pub mod Turns
 pub mod Tells
 pub mod Histories

@@ -2,12 +2,13 @@
 use mathlib.Core.Path.{_≡_, refl, sym, ap, _∙_}
 use mathlib.Core.Bool.{true}
 use mathlib.Core.List.{List, [], _∷_}
-use Prim.Native.Nat.{ℕ, suc, _+_, _<_}
+use Prim.Native.Nat.{ℕ, suc, _+_, _-_, _≤_, _<_}
+use native.Mathlib.Nat.{zero-add}
 use native.Mathlib.Omega.{arith}
 use borrow.Author.Tests.{eq-eqb, eqb-true}
 use lib.Dec.{eqb}
 use lib.ListN.{length, take, drop}
-use lib.Seq.{take-at, drop-at}
+use lib.Seq.{take-at, drop-at, drop-append-add, drop-drop}
 use Rattle.rules.specs.Bytes.{byte, every, sameAt, sameBytes, over}
 use Rattle.rules.specs.Request.{header, message}
 use Rattle.rules.proofs.Bools.{and-left, and-right}
@@ -36,6 +37,13 @@ equal-then-same a b e = rw (e, eq-eqb (length b) (length b) refl) (every-true (s
 pub front-is : (m buffer : List ℕ) → take (length m) (over 0 m buffer) ≡ m
 unfolding over
 front-is m buffer = take-at m (drop (0 + length m) buffer) (length m) refl
+
+-- and what stands past it, which stays
+pub rest-stays : (m buffer : List ℕ) (n : ℕ) → length m ≤ n → drop n (over 0 m buffer) ≡ drop n buffer
+unfolding over
+rest-stays m buffer n h =
+    let e : n ≡ length m + (n - length m) = omega arith in
+    rw (zero-add, e) (drop-append-add m (drop (length m) buffer) (n - length m) ∙ drop-drop (n - length m) (length m) buffer)
 
 -- a message's payload is told from the message
 pub payload-same : (kind : ℕ) (q a b : List ℕ) → message kind q a ≡ message kind q b → a ≡ b

@@ -1,18 +1,15 @@
 -- Demands 1 and 2 of reports, proved of the right reader and writer. Assumes nothing.
-use mathlib.Core.Path.{_≡_, refl, sym, ap, _∙_}
-use mathlib.Core.Bool.{Bool, true, false, not, _&&_, _||_}
-use mathlib.Core.List.{List, [], _++_}
-use Prim.Native.Nat.{ℕ, _+_, _-_, _*_, _≤_}
-use native.Mathlib.Nat.{zero-add}
+use mathlib.Core.Path.{_≡_, refl}
+use mathlib.Core.Bool.{Bool, true, false, not, _&&_}
+use mathlib.Core.List.{List}
+use Prim.Native.Nat.{ℕ, _+_, _*_, _≤_}
 use native.Mathlib.Omega.{arith}
 use borrow.Author.Tests.{eq-eqb, ne-eqb, eqb-true, eqb-false}
 use lib.Dec.{eqb, ltb}
-use lib.ListN.{length, take, drop, length-append, length-take}
-use lib.Seq.{take-at, drop-append-add, drop-drop}
-use Rattle.rules.specs.Bytes.{if_then_else_, Bytes, num, bits, bytesOf, over, zeros}
-use Rattle.rules.specs.Range.{mostRanges, rangeBytes, allPages, allAttributes, neverFall, idsOf}
-use Rattle.rules.specs.Record.{mostInformation}
-use Rattle.rules.specs.Report.{leastReport, mostReport, totalOf, bytesOfRanges, fieldRange, headOf, reportBytes, contentNumber, readCount, readRange, readLength, sizeNumber, readNumber, readFields, zeroFields, handedBack, writeNumber, writtenLength, written, Typed, normal}
+use lib.ListN.{length, take, length-append, length-take}
+use Rattle.rules.specs.Bytes.{if_then_else_, Bytes, num, bits, over, zeros}
+use Rattle.rules.specs.Range.{allPages, allAttributes, neverFall, idsOf}
+use Rattle.rules.specs.Report.{mostReport, totalOf, fieldRange, reportBytes, contentNumber, readCount, readRange, readLength, sizeNumber, readNumber, zeroFields, handedBack, writeNumber, writtenLength, written, Typed, normal}
 use Rattle.rules.specs.declared.ReportFields.{ReportFields}
 use Rattle.rules.proofs.Numbers.{length-bytes}
 use Rattle.rules.proofs.Parts.{length-over}
@@ -21,7 +18,8 @@ use Rattle.rules.proofs.WriteBack.{write-read}
 use Rattle.rules.proofs.Writes.{writer-accepts}
 use Rattle.rules.proofs.Written.{length-head, length-ranges}
 use Rattle.demands.specs.Answers.{firstOf}
-use Rattle.demands.specs.Reports.{Read, Wrote, reader, writer, readerLines, writerLines, ReadFixed, WriteFixed, ReportsFixed, ReportsSurvive}
+use Rattle.demands.specs.Reports.{reader, writer, readerLines, writerLines, WriteFixed, ReportsFixed, ReportsSurvive}
+use Rattle.demands.proofs.Lists.{front-is, rest-stays}
 
 -- ---- demand 1: the reader
 
@@ -71,13 +69,6 @@ unfolding reportBytes
 report-short f =
     rw (length-append, length-append, length-append, length-head f, length-ranges (f .n) (fieldRange f), length-bytes 4 (f .l), length-take) (omega arith)
 
--- bytes at the front leave what stands past them
-rest-stays : (m output : List ℕ) (n : ℕ) → length m ≤ n → drop n (over 0 m output) ≡ drop n output
-unfolding over
-rest-stays m output n h =
-    let e : n ≡ length m + (n - length m) = omega arith in
-    rw (zero-add, e) (drop-append-add m (drop (length m) output) (n - length m) ∙ drop-drop (n - length m) (length m) output)
-
 module _ (f : ReportFields) (output : List ℕ) where
   abbrev number : ℕ
   number = writeNumber f (length output)
@@ -124,11 +115,11 @@ reports = record { reads = λ s. record { number-is = reader-number s; refused-f
 -- the first bytes of what was written are the report
 front-written : (f : ReportFields) (output : List ℕ) → Typed f → writeNumber f (length output) ≡ 0
     → take (writtenLength f (length output)) (written f output) ≡ reportBytes f
-unfolding writtenLength written over
+unfolding writtenLength written
 front-written f output t z =
     let little = writer-accepts f (length output) z .2 in
-    rw (eq-eqb (writeNumber f (length output)) 0 z)
-    (take-at (reportBytes f) (drop (0 + length (reportBytes f)) output) (totalOf (f .n) (f .l)) (length-report f (omega (arith, t .information-length))))
+    let long = length-report f (omega (arith, t .information-length)) in
+    rw (eq-eqb (writeNumber f (length output)) 0 z, ← long) (front-is (reportBytes f) output)
 
 survives-writing : (f : ReportFields) (output : List ℕ) → Typed f → writeNumber f (length output) ≡ 0
     → reader (take (writtenLength f (length output)) (written f output)) ≡ record { number = 0; fields = normal f }

@@ -71,6 +71,14 @@ module _ (c d : Call) (t : List ℕ) where
         table-same = rw (stays c t n, stays d t n, stays c t n);
       }
 
+  -- so it is enough to show it of one that is accepted
+  on-any : (tableNumber t ≡ 0 → Swap step c d t) → Swap step c d t
+  on-any accepted = by (eqb (tableNumber t) 0) refl
+    where
+      by : (b : Bool) → eqb (tableNumber t) 0 ≡ b → Swap step c d t
+      by true e = accepted (eqb-true (tableNumber t) 0 e)
+      by false e = on-refused (eqb-false (tableNumber t) 0 e)
+
   module _ {x y : Option Identity} (a : Local x c) (b : Local y d) (apart : Elsewhere x y) where
     on-accepted : tableNumber t ≡ 0 → Swap step c d t
     on-accepted z =
@@ -87,19 +95,12 @@ module _ (c d : Call) (t : List ℕ) where
               ∙ sym (both a b apart t z after-d));
         }
 
-    local-swap : Swap step c d t
-    local-swap = by (eqb (tableNumber t) 0) refl
-      where
-        by : (accepted : Bool) → eqb (tableNumber t) 0 ≡ accepted → Swap step c d t
-        by true e = on-accepted (eqb-true (tableNumber t) 0 e)
-        by false e = on-refused (eqb-false (tableNumber t) 0 e)
-
   -- different interfaces are at different places,
   different-swap : (i j : Identity) → Names i c → Names j d → same i j ≡ false → Swap step c d t
   different-swap i j m n x =
       let a = looks-at m in
       let b = looks-at n in
-      local-swap (a .local) (b .local) (λ rs k p q. different-elsewhere i j x rs k (a .at-most rs k p) (b .at-most rs k q))
+      on-any (on-accepted (a .local) (b .local) (λ rs k p q. different-elsewhere i j x rs k (a .at-most rs k p) (b .at-most rs k q)))
 
   -- and a request that names nobody looks at no record and leaves the table, beside any call
   module _ (a : Local none c) where
@@ -114,12 +115,9 @@ module _ (c d : Call) (t : List ℕ) where
         }
 
     nobody-swap : Swap step c d t
-    nobody-swap = by (eqb (tableNumber t) 0) refl
-      where
-        by : (accepted : Bool) → eqb (tableNumber t) 0 ≡ accepted → Swap step c d t
-        by true e = nobody-accepted (eqb-true (tableNumber t) 0 e)
-        by false e = on-refused (eqb-false (tableNumber t) 0 e)
+    nobody-swap = on-any nobody-accepted
 
+-- a swap the other way round
 turned : {c d : Call} {t : List ℕ} → Swap step d c t → Swap step c d t
 turned s = record { first-same = s .second-same; second-same = s .first-same; table-same = sym (s .table-same) }
 

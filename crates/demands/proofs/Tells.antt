@@ -10,7 +10,7 @@ use lib.ListN.{length}
 use Rattle.rules.specs.Bytes.{if_then_else_, byte, part}
 use Rattle.rules.specs.Call.{Outcome, refused, served, carriedOut, changed, leastReply, leastRequest, answered, registerWritten, happened, Call, Request, RegisterWrite, DeviceWide, FirmwareQuestion, step}
 use Rattle.rules.specs.Change.{ruleOf, hits, writeHits, live, moved}
-use Rattle.rules.specs.Identity.{identityAt, identityOf, same}
+use Rattle.rules.specs.Identity.{identityAt, identityOf}
 use Rattle.rules.specs.Lock.{supported}
 use Rattle.rules.specs.Record.{Rec, state, nonce, offsetOk}
 use Rattle.rules.specs.Request.{Lent, Effect, does, fails, kindOf, exactLength, legalIn, message, errorMessage, verdict, askedFlags, askedStream, askedOffset, secure, effect, locked, lockInterface, startInterface, running, cleared}

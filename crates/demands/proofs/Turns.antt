@@ -12,7 +12,7 @@ use Rattle.rules.specs.Call.{Outcome, refused, served, carriedOut, changed, ans
 use Rattle.rules.specs.Change.{ruleOf, hits, ruleHits, writeHits, live, moves, moved, firmwareYes}
 use Rattle.rules.specs.Identity.{identityAt, identityOf, same}
 use Rattle.rules.specs.Lock.{stored}
-use Rattle.rules.specs.Record.{Rec, state, flags, stream, session, nonce, lockMsix}
+use Rattle.rules.specs.Record.{Rec, state, stream, session, nonce, lockMsix}
 use Rattle.rules.specs.Request.{Lent, Effect, kindOf, exactLength, message, verdict, askedFlags, effect, locked, running, cleared}
 use Rattle.rules.specs.Table.{records, recordAt, recordBytes, identity, names, find, tableNumber, lookupNumber}
 use Rattle.rules.specs.declared.Event.{Event}
@@ -30,7 +30,7 @@ use Rattle.rules.proofs.Identities.{same-sym, same-like}
 use Rattle.rules.proofs.Lookup.{find-at}
 use Rattle.rules.proofs.Moved.{moved-is, stays-is}
 use Rattle.rules.proofs.Records.{length-records, length-record}
-use Rattle.rules.proofs.ServedCall.{OnRecord, Answers, answered-is, named-after, other-after, long}
+use Rattle.rules.proofs.ServedCall.{OnRecord, Answers, answered-is, named-after, other-after}
 use Rattle.demands.specs.Machine.{Seen}
 use Rattle.demands.specs.Histories.{Terms, termsOf, Asks, AcceptedLock, ServedStart, ruleEnds, eventEnds, sendsToError, Ends}
 use Rattle.demands.proofs.Lists.{same-then-equal, front-is}

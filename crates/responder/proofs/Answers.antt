@@ -38,6 +38,15 @@ record-back t k accepted h l n p′ r′ m d =
       table-is = back-is t k h r′ steps (rw (w .record-is) long) ∙ ap (λ (r : List ℕ). join (set (records t) k r)) (w .record-is);
     }
 
+-- ---- a request that no refusal stops: w is what the checks are to tell
+
+module _ (l : Lent) (t : List ℕ) (v w : Verdict) (told : v ≡ w) where
+  pub an-error : (code datum n : ℕ) (p′ : List ℕ) → v ≡ Error code datum → Replies (errorMessage code datum (l .request)) n (l .reply) p′ → Gives (carriedOut w l t) (Served n) p′ t
+  an-error code datum n p′ e m = rw (← told, e) (record { number-is = refl; value-is = m .length-is; reply-is = m .bytes-are; table-is = refl })
+
+  pub a-record : (k n : ℕ) (p′ t′ : List ℕ) → v ≡ Serve k → Gives (carriedOut (Serve k) l t) (Served n) p′ t′ → Gives (carriedOut w l t) (Served n) p′ t′
+  a-record k n p′ t′ e g = rw (← told, e) g
+
 -- ---- the answer on an accepted table
 
 module _ (l : Lent) (t : List ℕ) (accepted : tableNumber t ≡ 0) where
@@ -63,17 +72,9 @@ module _ (l : Lent) (t : List ℕ) (accepted : tableNumber t ≡ 0) where
         unfolding answered
         wrong-nonce d = simp (eq-eqb _ _ accepted, le-ltb _ _ a, le-ltb _ _ b, eq-eqb _ _ c, ne-eqb _ _ d) (still Inputs (l .reply) t)
 
-        module _ (d : length (l .nonce) ≡ 32) (v : Verdict) (told : v ≡ verdict (l .request) (records t)) where
-          past : answered l t ≡ carriedOut v l t
-          unfolding answered
-          past = simp (eq-eqb _ _ accepted, le-ltb _ _ a, le-ltb _ _ b, eq-eqb _ _ c, eq-eqb _ _ d) (ap (λ (x : Verdict). carriedOut x l t) (sym told))
-
-          pub an-error : (code datum n : ℕ) (p′ : List ℕ) → v ≡ Error code datum → Replies (errorMessage code datum (l .request)) n (l .reply) p′ → Right (Served n) p′ t
-          an-error code datum n p′ e m =
-              rw (past, e) (record { number-is = refl; value-is = m .length-is; reply-is = m .bytes-are; table-is = refl })
-
-          pub a-record : (k n : ℕ) (p′ t′ : List ℕ) → v ≡ Serve k → Gives (carriedOut (Serve k) l t) (Served n) p′ t′ → Right (Served n) p′ t′
-          a-record k n p′ t′ e g = rw (past, e) g
+        pub served : length (l .nonce) ≡ 32 → (n : ℕ) (p′ t′ : List ℕ) → Gives (carriedOut (verdict (l .request) (records t)) l t) (Served n) p′ t′ → Right (Served n) p′ t′
+        unfolding answered
+        served d n p′ t′ g = simp (eq-eqb _ _ accepted, le-ltb _ _ a, le-ltb _ _ b, eq-eqb _ _ c, eq-eqb _ _ d) g
 
 -- what a request that is to be served tells
 module _ (k : ℕ) (v : Verdict) (q t : List ℕ) (told : v ≡ verdict q (records t)) (serve : v ≡ Serve k) where

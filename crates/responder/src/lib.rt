@@ -16,8 +16,8 @@ ghost use mathlib.Core.Path.{_≡_};
 ghost use Prim.Native.Nat.{_≤_, _<_, _/_};
 ghost use lib.ListN.{length};
 ghost use Rattle.rules.specs.Call.{Request, carriedOut, step, Gives};
-ghost use Rattle.rules.specs.Request.{kindOf, exactLength, lent};
-ghost use Rattle.rules.specs.Table.{recordBytes, tableNumber};
+ghost use Rattle.rules.specs.Request.{kindOf, exactLength, verdict, lent};
+ghost use Rattle.rules.specs.Table.{records, recordBytes, tableNumber};
 ghost use Rattle.rules.specs.declared.Answer.the-variants.{Served};
 ghost use Rattle.rules.specs.declared.Verdict.the-variants.{Serve};
 
@@ -49,7 +49,26 @@ fn serve_at(
     )
 }
 
-// Refusals 4 to 6, on an accepted table; then the checks, which write nothing; then the reply.
+// A request that no refusal stops: the checks, which write nothing, and then the reply. Its length.
+fn carry_out(
+    request: &[u8],
+    reply: &mut [u8],
+    table: &mut [u8],
+    nonce: &[u8],
+    ready: bool,
+    streams: &[u8],
+    session: Session,
+) -> usize
+    requires { ⌜ (16 ≤ length (now request)) × (256 ≤ length (now reply)) × (length (now nonce) ≡ 32) × (length (now streams) ≡ 32) × (tableNumber (now table) ≡ 0) ⌝ }
+    ensures { λ n. ⌜ Gives (carriedOut (verdict (now (request .entry)) (records (now (table .entry)))) (lent (now (request .entry)) (now (reply .entry)) (now (nonce .entry)) ready (now (streams .entry)) session) (now (table .entry))) (Served n) (now (reply .exit)) (now (table .exit)) ⌝ }
+{
+    match check_request(request, table) {
+        Verdict::Error(code, datum) => put_error(code, datum, request, reply),
+        Verdict::Serve(k) => serve_at(k, request, reply, table, nonce, ready, streams, session),
+    }
+}
+
+// Refusals 4 to 6, on an accepted table; then what the request gets.
 fn answer(
     request: &[u8],
     reply: &mut [u8],
@@ -74,12 +93,7 @@ fn answer(
     if nonce.len() != INPUT_BYTES {
         return Answer::Refused(Refusal::Inputs);
     }
-    match check_request(request, table) {
-        Verdict::Error(code, datum) => Answer::Served(put_error(code, datum, request, reply)),
-        Verdict::Serve(k) => {
-            Answer::Served(serve_at(k, request, reply, table, nonce, ready, streams, session))
-        }
-    }
+    Answer::Served(carry_out(request, reply, table, nonce, ready, streams, session))
 }
 
 // Answers a request, whatever bytes arrive. A refusal writes nothing.

@@ -1,16 +1,16 @@
 -- What a change leaves of an accepted table: exactly the records that it is for move, and no other byte changes. Assumes nothing.
 use mathlib.Core.Path.{_≡_, refl, sym, _∙_}
-use mathlib.Core.Bool.{Bool, true, false, not}
+use mathlib.Core.Bool.{Bool, true, false}
 use mathlib.Core.List.{List, [], _∷_, map}
 use Prim.Native.Nat.{ℕ, _/_, _<_}
 use native.Mathlib.Omega.{arith}
 use borrow.Author.Tests.{eq-eqb, ltb-true, ltb-false}
-use lib.Dec.{eqb, ltb}
-use lib.ListN.{length, getD, set, List·getD-eq-default}
+use lib.Dec.{ltb}
+use lib.ListN.{length, set, List·getD-eq-default}
 use Rattle.rules.specs.Bytes.{byte}
 use Rattle.rules.specs.Call.{join, refused, changed, registerWritten, happened}
 use Rattle.rules.specs.Change.{ruleOf, hits, ruleHits, deviceWide, writeHits, live, moves, moved, differing}
-use Rattle.rules.specs.Identity.{identityOf, same}
+use Rattle.rules.specs.Identity.{identityOf}
 use Rattle.rules.specs.Record.{Rec, ERROR}
 use Rattle.rules.specs.Request.{cleared}
 use Rattle.rules.specs.Table.{records, recordAt, recordBytes, identity, names, find, tableNumber}

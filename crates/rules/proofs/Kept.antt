@@ -1,11 +1,11 @@
 -- What a record that keeps its rules keeps, rule by rule. Assumes nothing.
 use mathlib.Core.Path.{_≡_}
-use mathlib.Core.Bool.{Bool, true, _&&_}
+use mathlib.Core.Bool.{true, _&&_}
 use mathlib.Core.List.{List}
-use Prim.Native.Nat.{ℕ, _^_, _≤_, _<_}
+use Prim.Native.Nat.{ℕ, _≤_}
 use borrow.Author.Tests.{leb-true}
 use lib.Dec.{eqb, leb}
-use Rattle.rules.specs.Bytes.{byte, Bytes, num}
+use Rattle.rules.specs.Bytes.{byte, Bytes}
 use Rattle.rules.specs.Identity.{same}
 use Rattle.rules.specs.Range.{mostRanges, eightRanges, rangeIn, allPages}
 use Rattle.rules.specs.Record.{Rec, mostInformation, functionId, rangeCount, rangeOf, informationLength, identityOk, stateOk, nonceOk, countOk, interfaceOk, unusedOk, lockOk, rangesOk, informationOk, recordOk}

@@ -2,8 +2,8 @@
 use mathlib.Core.Path.{_≡_, refl, sym, ap, _∙_}
 use mathlib.Core.Bool.{Bool, true, false, not, _&&_}
 use mathlib.Core.List.{List, [], _∷_}
-use Prim.Native.Nat.{ℕ, zero, suc, _+_, _≤_, _<_}
-use native.Mathlib.Nat.{le-of-suc-le-suc, not-suc-le-zero, add-suc}
+use Prim.Native.Nat.{ℕ, zero, suc, _+_, _<_}
+use native.Mathlib.Nat.{le-of-suc-le-suc, not-suc-le-zero}
 use native.Mathlib.Omega.{arith}
 use borrow.Author.Tests.{not-true}
 use lib.ListN.{length, getD}
@@ -11,9 +11,8 @@ use Rattle.rules.specs.Bytes.{if_then_else_}
 use Rattle.rules.specs.Record.{Rec}
 use Rattle.rules.specs.Table.{all, names, namesNot, findFrom, find, nothing}
 use Rattle.rules.specs.declared.Identity.{Identity}
-use Rattle.rules.specs.declared.Found.{Found}
 use Rattle.rules.specs.declared.Found.the-variants.{At, Nothing}
-use Rattle.rules.proofs.Bools.{clash, and-left, and-right}
+use Rattle.rules.proofs.Bools.{and-left, and-right}
 
 -- a test of every record, at one of them
 pub all-at : (p : Rec → Bool) (rs : List Rec) (k : ℕ) → all p rs ≡ true → k < length rs → p (getD rs k []) ≡ true

@@ -31,4 +31,5 @@ fits x e = by (ltb x (2 ^ 64)) refl
     by false l =
         let above = ltb-false x (2 ^ 64) l in
         let below : 2 ^ 64 - 1 - x ≡ 0 = omega arith in
-        clash (sym (rw (le-ltb x (2 ^ 63) (omega arith), below) at e))
+        let counted : wholePages (signed x) ≡ false = rw (le-ltb x (2 ^ 63) (omega arith), below) in
+        clash (sym e ∙ counted)

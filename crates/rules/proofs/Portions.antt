@@ -1,15 +1,14 @@
 -- A portion of a record's report, cut from the whole. Assumes nothing.
-use mathlib.Core.Path.{_≡_, refl, sym, ap, _∙_}
-use mathlib.Core.Bool.{Bool, true}
+use mathlib.Core.Path.{_≡_}
+use mathlib.Core.Bool.{true}
 use mathlib.Core.List.{List, _++_}
 use Prim.Native.Nat.{ℕ, _+_, _-_, _≤_, _<_, min}
-use native.Mathlib.Nat.{zero-add}
 use native.Mathlib.Omega.{arith}
 use lib.ListN.{length, take, drop, length-append}
 use Rattle.rules.specs.Bytes.{bytesOf, blank, part, over}
 use Rattle.rules.specs.Range.{mostRanges}
-use Rattle.rules.specs.Record.{Rec, mostInformation, rangeCount, informationLength, recordOk}
-use Rattle.rules.specs.Report.{mostReport, mostPortion, informationFrom, reportBytes, reportOf, reportTotal, portionLength, remainderLength, portionBytes}
+use Rattle.rules.specs.Record.{Rec, mostInformation, informationLength, recordOk}
+use Rattle.rules.specs.Report.{mostReport, mostPortion, reportBytes, reportOf, reportTotal, portionLength, remainderLength, portionBytes}
 use Rattle.rules.specs.Table.{recordBytes}
 use Rattle.rules.specs.declared.ReportFields.{ReportFields}
 use Rattle.rules.proofs.Kept.{count-most, information-most}

@@ -7,7 +7,7 @@ use native.Mathlib.Omega.{arith}
 use borrow.Author.Tests.{leb-true}
 use lib.Dec.{leb}
 use lib.IntN.{ℤ}
-use Rattle.rules.specs.Bytes.{every, zeros}
+use Rattle.rules.specs.Bytes.{zeros}
 use Rattle.rules.specs.Lock.{shifted, stays, allStay}
 use Rattle.rules.specs.Range.{rangeBytes, pagesEnd, eightRanges, rangeIn, pagesOk, attributesOk, allPages, allAttributes, neverFall, idsOf}
 use Rattle.rules.specs.Record.{Rec, rangesPlace, rangeCount, rangeOf, rangesOk}

@@ -1,26 +1,25 @@
 -- A report written and read gives back its fields. Assumes nothing.
 use mathlib.Core.Path.{_≡_, refl, ap, _∙_}
-use mathlib.Core.Bool.{Bool, true, false, _||_}
+use mathlib.Core.Bool.{true}
 use mathlib.Core.List.{List, _++_}
 use mathlib.Core.Logic.{⊎-elim}
-use Prim.Native.Nat.{ℕ, zero, suc, _+_, _-_, _*_, _^_, _≤_, _<_}
-use native.Mathlib.Nat.{add-assoc, suc-mul, not-suc-le-zero, le-of-suc-le-suc, eq-or-lt-of-le}
+use Prim.Native.Nat.{ℕ, zero, suc, _+_, _*_, _≤_, _<_}
+use native.Mathlib.Nat.{add-assoc, not-suc-le-zero, le-of-suc-le-suc, eq-or-lt-of-le}
 use native.Mathlib.Omega.{arith}
-use lib.Dec.{ltb}
-use lib.ListN.{length, take, drop, length-append, length-drop, List·getD-append}
-use lib.Seq.{getD-append-add, take-append-le, drop-append-le, drop-at, take-take, length-take-le}
-use borrow.Author.Tests.{ltb-false, le-ltb}
-use Rattle.rules.specs.Bytes.{if_then_else_, num, bytesOf, blank, part, every, zeros}
+use lib.ListN.{length, take, length-append}
+use lib.Seq.{drop-at, take-take, length-take-le}
+use borrow.Author.Tests.{le-ltb}
+use Rattle.rules.specs.Bytes.{num, bytesOf, part, every, zeros}
 use Rattle.rules.specs.Range.{mostRanges, rangeBytes, listed, eightRanges, rangeFrom, bytesOfRange}
 use Rattle.rules.specs.Record.{mostInformation}
-use Rattle.rules.specs.Report.{leastReport, mostReport, totalOf, informationFrom, bytesOfRanges, fieldRange, headOf, reportBytes, contentNumber, readCount, readRange, lengthPlace, readLength, sizeNumber, readNumber, readFields, TypedRange, Typed, normal, writeNumber}
+use Rattle.rules.specs.Report.{leastReport, totalOf, informationFrom, bytesOfRanges, fieldRange, headOf, reportBytes, contentNumber, readCount, readRange, lengthPlace, readLength, sizeNumber, readNumber, readFields, TypedRange, Typed, normal, writeNumber}
 use Rattle.rules.specs.declared.Range.{Range}
 use Rattle.rules.specs.declared.ReportFields.{ReportFields}
 use Rattle.rules.proofs.Listed.{listed-same}
 use Rattle.rules.proofs.Numbers.{length-bytes, num-append, num-past, num-last}
 use Rattle.rules.proofs.Sizes.{content-same}
 use Rattle.rules.proofs.Writes.{writer-accepts}
-use Rattle.rules.proofs.Written.{length-range, length-ranges, length-head}
+use Rattle.rules.proofs.Written.{length-ranges, length-head}
 
 -- ---- reading what was put together
 

@@ -1,21 +1,19 @@
 -- The report of every record that keeps its rules in state 1 or 2 is accepted by the reader. Assumes nothing.
 use mathlib.Core.Path.{_≡_, refl, sym, ap, _∙_}
 use mathlib.Core.Bool.{Bool, true, false, _&&_}
-use mathlib.Core.List.{List, [], _∷_, _++_}
-use mathlib.Core.Logic.{_⊎_, inl, inr, ⊎-elim}
-use Prim.Native.Nat.{ℕ, zero, suc, _+_, _-_, _*_, _/_, _^_, _≤_, _<_}
-use native.Mathlib.Nat.{not-suc-le-zero, le-of-suc-le-suc, eq-or-lt-of-le}
+use mathlib.Core.List.{List}
+use mathlib.Core.Logic.{_⊎_, inl, inr}
+use Prim.Native.Nat.{ℕ, _+_, _*_, _/_, _^_, _≤_, _<_}
 use native.Mathlib.Omega.{arith}
 use lib.Dec.{eqb, leb, ltb}
 use lib.IntN.{ℤ, pos, negsuc, _+ℤ_}
 use lib.Signed.{quotZ}
-use lib.ListN.{length, take, drop, getD, replicate, length-append, length-replicate, List·getD-append}
-use lib.Seq.{getD-append-add, getD-drop, getD-at}
+use lib.ListN.{length, getD}
 use borrow.Author.Tests.{leb-true, le-leb, ltb-true, ltb-false, le-ltb, eqb-true, eq-eqb}
-use Rattle.rules.specs.Bytes.{if_then_else_, byte, Bytes, bits, bit, bitClear, blank, part, every}
+use Rattle.rules.specs.Bytes.{if_then_else_, Bytes, bits, bit, bitClear}
 use Rattle.rules.specs.Lock.{contains, signed, pageBytes, wholePages, fitted, shifted, stays, allStay}
 use Rattle.rules.specs.Range.{mostRanges, rangeBytes, eightRanges, rangeIn, pagesEnd, zeroRange, pagesOk, attributesOk}
-use Rattle.rules.specs.Record.{Rec, state, flags, lockMsix, rangeCount, interfaceInfo, msixControl, lnrControl, tphControl, offset, mostInformation, rangesPlace, rangeOf, informationLength, flagsOk, offsetOk, lockOk, informationOk, recordOk}
+use Rattle.rules.specs.Record.{Rec, state, flags, lockMsix, rangeCount, interfaceInfo, msixControl, lnrControl, tphControl, offset, mostInformation, rangesPlace, rangeOf, informationLength, flagsOk, offsetOk, lockOk, recordOk}
 use Rattle.rules.specs.Report.{mostReport, informationFrom, fieldRange, reportBytes, contentNumber, readNumber, writeNumber, pageOf, shownAttributes, shownRange, reportedRange, reportOf, TypedRange, Typed}
 use Rattle.rules.specs.Table.{recordBytes}
 use Rattle.rules.specs.declared.Range.{Range}

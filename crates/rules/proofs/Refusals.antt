@@ -4,7 +4,6 @@ use mathlib.Core.List.{List}
 use Prim.Native.Nat.{ℕ}
 use native.Mathlib.Omega.{arith}
 use borrow.Author.Tests.{eq-eqb, ne-eqb}
-use lib.Dec.{eqb}
 use Rattle.rules.specs.Call.{Outcome, refused, onAccepted, Gives}
 use Rattle.rules.specs.Table.{tableNumber, judgementNumber, refusalNumber}
 use Rattle.rules.specs.declared.Answer.the-variants.{Refused}

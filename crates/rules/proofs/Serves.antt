@@ -1,16 +1,16 @@
 -- A request's effect, by its type: a law for each way out. Assumes nothing.
-use mathlib.Core.Path.{_≡_, refl, sym, ap, _∙_}
+use mathlib.Core.Path.{_≡_, refl, ap, _∙_}
 use mathlib.Core.Bool.{Bool, true, false, not}
 use mathlib.Core.List.{List}
 use Prim.Native.Nat.{ℕ, _≤_}
 use native.Mathlib.Omega.{arith}
-use borrow.Author.Tests.{ne-eqb, not-true, not-false}
+use borrow.Author.Tests.{ne-eqb}
 use lib.Dec.{eqb, leb}
 use lib.ListN.{length}
 use Rattle.rules.specs.Bytes.{if_then_else_, num}
 use Rattle.rules.specs.Record.{Rec, state}
 use Rattle.rules.specs.Report.{reportTotal, portionBytes}
-use Rattle.rules.specs.Request.{Lent, Effect, does, message, kindOf, exactLength, legalIn, fails, getVersion, getCapabilities, getReport, getState, gets, lockInterface, startInterface, stopInterface, effect}
+use Rattle.rules.specs.Request.{Lent, does, message, kindOf, exactLength, legalIn, fails, getVersion, getCapabilities, getReport, getState, gets, lockInterface, startInterface, stopInterface, effect}
 
 -- ---- the room that a listed request has
 

@@ -1,15 +1,13 @@
 -- A report written piece by piece. Assumes nothing.
-use mathlib.Core.Path.{_≡_, refl, sym, ap, _∙_}
-use mathlib.Core.List.{List, [], _∷_, _++_}
-use Prim.Native.Nat.{ℕ, zero, suc, _+_, _*_, _≤_, _<_}
+use mathlib.Core.Path.{_≡_, refl, sym}
+use mathlib.Core.List.{List, _++_}
+use Prim.Native.Nat.{ℕ, zero, suc, _+_, _*_, _≤_}
 use native.Mathlib.Nat.{le-antisymm}
 use native.Mathlib.Numerals.{add-one}
 use native.Mathlib.Omega.{arith}
 use lib.ListN.{length, take, length-append}
-use lib.Seq.{length-take-le}
-use Rattle.rules.specs.Bytes.{bytesOf, blank, over}
+use Rattle.rules.specs.Bytes.{bytesOf, over}
 use Rattle.rules.specs.Range.{rangeBytes, bytesOfRange}
-use Rattle.rules.specs.Record.{mostInformation}
 use Rattle.rules.specs.Report.{bytesOfRanges, fieldRange, headOf, frontOf, reportBytes}
 use Rattle.rules.specs.declared.Range.{Range}
 use Rattle.rules.specs.declared.ReportFields.{ReportFields}

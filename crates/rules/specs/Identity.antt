@@ -1,5 +1,5 @@
 -- Document 01, "The table" and "Requests": FUNCTION_ID, and which interfaces are the same.
-use mathlib.Core.Bool.{Bool, true, false, not, _&&_}
+use mathlib.Core.Bool.{Bool, not, _&&_}
 use mathlib.Core.List.{List}
 use Prim.Native.Nat.{ℕ}
 use lib.Dec.{eqb}

@@ -1,17 +1,16 @@
 -- Document 01, "Report" and "Report reader".
 use mathlib.Core.Path.{_≡_}
 use mathlib.Core.Bool.{Bool, true, false, not, _&&_, _||_}
-use mathlib.Core.List.{List, [], _∷_, _++_}
+use mathlib.Core.List.{List, [], _++_}
 use Prim.Native.Nat.{ℕ, zero, suc, _+_, _-_, _*_, _/_, _^_, _<_, min}
-use lib.Dec.{eqb, leb, ltb}
+use lib.Dec.{eqb, ltb}
 use lib.IntN.{ℤ}
 use lib.ListN.{length, take, replicate}
-use Rattle.rules.specs.Bytes.{if_then_else_, Bytes, num, bytesOf, bit, bits, bitSet, blank, part, over, zeros}
+use Rattle.rules.specs.Bytes.{if_then_else_, Bytes, num, bytesOf, bits, blank, part, over, zeros}
 use Rattle.rules.specs.Lock.{signed, shifted}
 use Rattle.rules.specs.Range.{mostRanges, rangeBytes, rangesFrom, bytesOfRange, zeroRange, eightRanges, rangeIn, allPages, allAttributes, neverFall, idsOf}
 use Rattle.rules.specs.Record.{Rec, mostInformation, noFwUpdate, lockMsix, interfaceInfo, msixControl, lnrControl, tphControl, offset, rangeCount, rangeOf, informationLength}
 use Rattle.rules.specs.declared.Range.{Range}
-use Rattle.rules.specs.declared.ReadReport.{ReadReport}
 use Rattle.rules.specs.declared.ReportFields.{ReportFields}
 use Rattle.rules.specs.declared.ReportVerdict.{ReportVerdict}
 use Rattle.rules.specs.declared.ReportVerdict.the-variants.{Accepted, Short, TooMany, Longer, Reserved, BadPages, FallingIds, SmallOutput}

@@ -1,8 +1,8 @@
 -- Document 01, "Requests (001)": the checks, and what each request does to the record that it names.
-use mathlib.Core.Bool.{Bool, true, false, not, _||_}
+use mathlib.Core.Bool.{Bool, true, not, _||_}
 use mathlib.Core.List.{List, [], _∷_, _++_}
 use Prim.Native.Nat.{ℕ, _/_, _%_}
-use lib.Dec.{eqb, leb, ltb}
+use lib.Dec.{eqb, leb}
 use lib.ListN.{length}
 use Rattle.rules.specs.Bytes.{if_then_else_, byte, num, bytesOf, bitSet, blank, part, over, sameBytes}
 use Rattle.rules.specs.Identity.{identityAt}
