@@ -1,4 +1,4 @@
-// The checks of a request, in document 01's order: version, type, length, interface. They write nothing.
+// The checks of a request, in document 01's order: version, type, length, interface; state. They write nothing.
 use rules::Found;
 use rules::Verdict;
 use rules::request::INTERFACE_ID;
@@ -7,12 +7,14 @@ use rules::request::INVALID_REQUEST;
 use rules::request::UNSUPPORTED_REQUEST;
 use rules::request::VERSION;
 use rules::request::VERSION_MISMATCH;
+use rules::state::CONFIG_LOCKED;
+use rules::state::CONFIG_UNLOCKED;
 use table::find::find;
 use wire::identity::identity_at;
 ghost use mathlib.Core.Path.{_≡_};
 ghost use Prim.Native.Nat.{_≤_};
 ghost use lib.ListN.{length};
-ghost use Rattle.rules.specs.Request.{exactLength, verdict};
+ghost use Rattle.rules.specs.Request.{exactLength, legalIn, verdict};
 ghost use Rattle.rules.specs.Table.{records};
 
 // The request table: the exact length of a request, 0 where the type is unlisted.
@@ -57,5 +59,17 @@ pub fn check_request(request: &[u8], table: &[u8]) -> Verdict
     match find(table, identity_at(request, INTERFACE_ID)) {
         Found::At(k) => Verdict::Serve(k),
         Found::Nothing => Verdict::Error(INVALID_INTERFACE, 0),
+    }
+}
+
+// The request table: the states in which a request is legal. Lock in state 0, report and start in state 1, any other in any state.
+pub fn legal(kind: u8, state: u8) -> bool
+    ensures { λ b. ⌜ b ≡ legalIn kind state ⌝ }
+{
+    match kind {
+        0x83 => state == CONFIG_UNLOCKED,
+        0x84 => state == CONFIG_LOCKED,
+        0x86 => state == CONFIG_LOCKED,
+        _ => true,
     }
 }

@@ -3,6 +3,7 @@ use crate::get::get_capabilities;
 use crate::get::get_report;
 use crate::get::get_state;
 use crate::get::get_version;
+use checks::legal;
 use locks::lock::lock_interface;
 use locks::start::start_interface;
 use locks::start::stop_interface;
@@ -16,29 +17,15 @@ use rules::request::INVALID_INTERFACE_STATE;
 use rules::request::LOCK_INTERFACE;
 use rules::request::START_INTERFACE;
 use rules::request::STOP_INTERFACE;
-use rules::state::CONFIG_LOCKED;
-use rules::state::CONFIG_UNLOCKED;
 ghost use mathlib.Core.Path.{_≡_};
 ghost use mathlib.Core.Bool.{true};
 ghost use Prim.Native.Nat.{_≤_};
 ghost use lib.ListN.{length};
 ghost use Rattle.rules.specs.Record.{recordOk};
-ghost use Rattle.rules.specs.Request.{kindOf, exactLength, legalIn, lent, effect, gets};
+ghost use Rattle.rules.specs.Request.{kindOf, exactLength, lent, effect, gets};
 ghost use Rattle.rules.specs.Table.{recordBytes};
 ghost use Rattle.locks.specs.Does.{Does};
 ghost use Rattle.replies.specs.Replies.{Replies};
-
-// Lock in state 0, report and start in state 1, any other in any state.
-fn legal(kind: u8, state: u8) -> bool
-    ensures { λ b. ⌜ b ≡ legalIn kind state ⌝ }
-{
-    match kind {
-        0x83 => state == CONFIG_UNLOCKED,
-        0x84 => state == CONFIG_LOCKED,
-        0x86 => state == CONFIG_LOCKED,
-        _ => true,
-    }
-}
 
 // 81h, 82h, 84h and 85h: the record stays.
 fn get(request: &[u8], reply: &mut [u8], r: &[u8]) -> usize

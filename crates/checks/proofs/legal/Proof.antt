@@ -1,8 +1,8 @@
 -- `legal` meets its contract. Assumes nothing.
 use borrow.Author.Tests.{ne-eqb}
 use Rattle.rules.specs.Request.{legalIn}
-use Rattle.handlers.proofs.serve.legal.Statement.{statement}
-use Rattle.handlers.proofs.serve.legal.Tie as tie
+use Rattle.checks.proofs.legal.Statement.{statement}
+use Rattle.checks.proofs.legal.Tie as tie
 
 returns : tie.Need-returns
 unfolding legalIn
