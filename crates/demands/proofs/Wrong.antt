@@ -7,7 +7,7 @@ use native.Mathlib.Nat.{not-suc-le-zero}
 use native.Mathlib.Omega.{arith}
 use lib.ListN.{length, replicate, length-append}
 use Rattle.rules.specs.Bytes.{byte, num, bytesOf, blank, part, over, every, zeros}
-use Rattle.rules.specs.Call.{join, Outcome, refused, answered, happened, Call, Request, FirmwareQuestion}
+use Rattle.rules.specs.Call.{join, Outcome, refused, answered, happened, Call, Request, RegisterWrite, DeviceWide, FirmwareQuestion}
 use Rattle.rules.specs.Change.{hits, live, moved, differing}
 use Rattle.rules.specs.Identity.{same}
 use Rattle.rules.specs.Range.{neverFall}
@@ -25,7 +25,7 @@ use Rattle.rules.proofs.Changes.{bytes-blank}
 use Rattle.demands.specs.Answers.{firstOf, AnswersFixed}
 use Rattle.demands.specs.Exactly.{Reaches, MayLock, RequestsExactly, EventsExactly}
 use Rattle.demands.specs.Histories.{Terms, termsOf, AcceptedLock, ServedStart, Ends, RanSince, InRun, RunExactlyWhen, unlocked}
-use Rattle.demands.specs.Machine.{Seen, bufferOf, requestOf, run, trace, seen, none-left, _and_}
+use Rattle.demands.specs.Machine.{Seen, bufferOf, run, trace, seen, none-left, _and_}
 use Rattle.demands.specs.Reports.{Writer, Wrote, reader, ReportsFixed, ReportsSurvive}
 use Rattle.demands.specs.Swaps.{DifferentInterfacesSwap}
 use Rattle.demands.specs.Wrong.{card, interface, versionAsked, lockAsked, startAsked, constant, onlyRefuses, onlyErrs, oneReply, leavesTable, runsAtLock, inventsCount, addsByte, showsRefused, writesNothing}
@@ -161,6 +161,13 @@ started-seen = record {
   served = refl;
   carries = refl;
 }
+
+-- the bytes that arrive with a call
+abbrev requestOf : Call → List ℕ
+requestOf (Request l) = l .request
+requestOf (RegisterWrite id class) = []
+requestOf (DeviceWide e) = []
+requestOf FirmwareQuestion = []
 
 -- a start is no stop and no change
 start-lasts : (on : Terms) → Ends interface on (seen leavesTable (Request startAsked) card) → ⊥

@@ -15,13 +15,6 @@ bufferOf (RegisterWrite id class) = []
 bufferOf (DeviceWide e) = []
 bufferOf FirmwareQuestion = []
 
--- the bytes that arrive with a call
-abbrev pub requestOf : Call → List ℕ
-requestOf (Request l) = l .request
-requestOf (RegisterWrite id class) = []
-requestOf (DeviceWide e) = []
-requestOf FirmwareQuestion = []
-
 -- an outcome over another table
 abbrev pub leaving : Outcome → List ℕ → Outcome
 leaving o t = record { number = o .number; value = o .value; reply = o .reply; table = t }

@@ -15,7 +15,7 @@ use Rattle.demands.specs.Answers.{Line, line, firstOf}
 
 -- ---- readers and writers
 
--- what a reader returns; what a writer returns, and the output afterwards
+-- what a reader returns; what a writer returns, number and length, and the output afterwards
 pub record Read : Type 0 where
   pub number : ℕ
   pub fields : ReportFields
@@ -40,7 +40,7 @@ writer f output = record { number = writeNumber f (length output); value = writt
 
 -- ---- demand 1
 
--- 23 a reserved bit set; 24 pages 0, or first + pages above 2^52; 25 IDs 0 to 7 that fall
+-- 23 a reserved bit set (`clear`: none is); 24 pages 0, or first + pages above 2^52; 25 IDs 0 to 7 that fall
 abbrev pub contentLines : Bool → ℕ → (ℕ → Range) → List Line
 contentLines clear n ranges = line 23 (not clear) ∷ line 24 (not (allPages n ranges)) ∷ line 25 (not (neverFall n (idsOf ranges))) ∷ []
 
