@@ -9,6 +9,7 @@ use rules::request::VERSION;
 use rules::request::VERSION_MISMATCH;
 use rules::state::CONFIG_LOCKED;
 use rules::state::CONFIG_UNLOCKED;
+use rules::state::RUN;
 use table::find::find;
 use wire::identity::identity_at;
 ghost use mathlib.Core.Path.{_≡_};
@@ -62,13 +63,13 @@ pub fn check_request(request: &[u8], table: &[u8]) -> Verdict
     }
 }
 
-// The request table: the states in which a request is legal. Lock in state 0, report and start in state 1, any other in any state.
+// The request table: the states in which a request is legal. Lock in state 0, report in 1 and 2, start in 1, any other in any state.
 pub fn legal(kind: u8, state: u8) -> bool
     ensures { λ b. ⌜ b ≡ legalIn kind state ⌝ }
 {
     match kind {
         0x83 => state == CONFIG_UNLOCKED,
-        0x84 => state == CONFIG_LOCKED,
+        0x84 => (state == CONFIG_LOCKED) | (state == RUN),
         0x86 => state == CONFIG_LOCKED,
         _ => true,
     }

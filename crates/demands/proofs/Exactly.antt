@@ -4,7 +4,7 @@ use mathlib.Core.Bool.{Bool, true, false, not}
 use mathlib.Core.List.{List, [], _∷_, map}
 use Prim.Native.Nat.{ℕ, suc, _+_, _≤_, _<_}
 use native.Mathlib.Omega.{arith}
-use borrow.Author.Tests.{eq-eqb, le-leb, le-ltb, lt-leb}
+use borrow.Author.Tests.{eq-eqb, ne-eqb, le-leb, le-ltb, lt-leb}
 use lib.Dec.{eqb}
 use lib.ListN.{length, getD, set}
 use Rattle.rules.specs.Bytes.{if_then_else_, byte, num, part, sameBytes}
@@ -12,7 +12,7 @@ use Rattle.rules.specs.Call.{join, Outcome, served, carriedOut, changed, leastR
 use Rattle.rules.specs.Change.{ruleOf, hits, writeHits, moved, differing, lets}
 use Rattle.rules.specs.Identity.{identityAt, identityOf}
 use Rattle.rules.specs.Lock.{supported}
-use Rattle.rules.specs.Record.{Rec, CONFIG_UNLOCKED, CONFIG_LOCKED, state, nonce, offsetOk}
+use Rattle.rules.specs.Record.{Rec, CONFIG_UNLOCKED, CONFIG_LOCKED, RUN, state, nonce, offsetOk}
 use Rattle.rules.specs.Report.{mostPortion, reportTotal, portionLength, portionBytes}
 use Rattle.rules.specs.Request.{Lent, Effect, does, fails, message, kindOf, exactLength, legalIn, verdict, capabilities, secure, askedFlags, askedStream, askedOffset, locked, lockInterface, getReport, running, startInterface, cleared, gets, effect}
 use Rattle.rules.specs.Table.{records, recordAt, all, find, tableNumber}
@@ -33,7 +33,7 @@ use Rattle.rules.proofs.Records.{length-records, length-record}
 use Rattle.rules.proofs.Bools.{clash}
 use Rattle.rules.proofs.Refusals.{past-table}
 use Rattle.rules.proofs.Values.{reply-small}
-use Rattle.demands.specs.Exactly.{Arrives, Reaches, MayLock, Gets, Errs, RequestsExactly, LongestReply, EventsExactly}
+use Rattle.demands.specs.Exactly.{Arrives, Reaches, LockStands, in-locked, in-run, MayLock, Gets, Errs, RequestsExactly, LongestReply, EventsExactly}
 
 -- ---- requests
 
@@ -92,7 +92,7 @@ module _ (l : Lent) (t : List ℕ) (on : Arrives l t) where
         is-served k found = gets-verdict _ (known (l .request) (records t) exact v refl who _ listed n refl refl k found)
 
 -- so a request of a listed type that no check stops gets what is done to that record
-gets-effect : (l : Lent) (t : List ℕ) (k kind : ℕ) → Reaches l t k kind (exactLength kind) → 16 ≤ exactLength kind
+pub gets-effect : (l : Lent) (t : List ℕ) (k kind : ℕ) → Reaches l t k kind (exactLength kind) → 16 ≤ exactLength kind
     → {m : List ℕ} {after : Rec} → effect l (recordAt t k) ≡ does m after → Gets step l t k m after
 gets-effect l t k kind on long e =
     let exact : exactLength kind ≡ exactLength (kindOf (l .request)) = sym (ap exactLength (on .kind-is)) in
@@ -145,14 +145,28 @@ module _ (l : Lent) (r : Rec) where
   lock-does e may =
       lock-accepted l r e (may .state-is) (may .bit-1) (may .bit-3) (may .bit-4) (may .whole-pages) (may .ranges-stay) (may .stream-secure) (may .nonce-ready)
 
-  report-past-does : kindOf q ≡ 0x84 → state r ≡ CONFIG_LOCKED → reportTotal r ≤ num q 16 2 → effect l r ≡ fails 0x01 q r
-  unfolding effect legalIn gets getReport
-  report-past-does e s h = rw (e, s, le-leb (reportTotal r) (num q 16 2) h)
+  -- a report is asked for in states 1 and 2
+  report-legal : LockStands r → legalIn 0x84 (state r) ≡ true
+  unfolding legalIn
+  report-legal (in-locked s) = rw s
+  report-legal (in-run s) = rw s
 
-  report-does : kindOf q ≡ 0x84 → state r ≡ CONFIG_LOCKED → num q 16 2 < reportTotal r
+  report-illegal : (LockStands r → ⊥) → legalIn 0x84 (state r) ≡ false
+  unfolding legalIn
+  report-illegal n = rw (ne-eqb (state r) CONFIG_LOCKED (λ s. n (in-locked s)), ne-eqb (state r) RUN (λ s. n (in-run s)))
+
+  pub asked-in-lock : kindOf q ≡ 0x84 → LockStands r → effect l r ≡ getReport q r
+  unfolding effect gets
+  asked-in-lock e s = rw (e, report-legal s)
+
+  report-past-does : kindOf q ≡ 0x84 → LockStands r → reportTotal r ≤ num q 16 2 → effect l r ≡ fails 0x01 q r
+  unfolding getReport
+  report-past-does e s h = rw (asked-in-lock e s, le-leb (reportTotal r) (num q 16 2) h)
+
+  report-does : kindOf q ≡ 0x84 → LockStands r → num q 16 2 < reportTotal r
       → effect l r ≡ does (message 0x04 q (portionBytes r (num q 16 2) (num q 18 2))) r
-  unfolding effect legalIn gets getReport
-  report-does e s h = rw (e, s, lt-leb (reportTotal r) (num q 16 2) h)
+  unfolding getReport
+  report-does e s h = rw (asked-in-lock e s, lt-leb (reportTotal r) (num q 16 2) h)
 
   state-does : kindOf q ≡ 0x85 → effect l r ≡ does (message 0x05 q (state r ∷ [])) r
   unfolding effect legalIn gets
@@ -186,6 +200,7 @@ requests = record {
   lock-stream = λ l t k on s f o m. gets-effect l t k 0x83 on (omega arith) (lock-stream-does l (recordAt t k) (on .kind-is) s f o m);
   lock-nonce = λ l t k on s f o m n. gets-effect l t k 0x83 on (omega arith) (lock-nonce-does l (recordAt t k) (on .kind-is) s f o m n);
   lock = λ l t k on may. gets-effect l t k 0x83 on (omega arith) (lock-does l (recordAt t k) (on .kind-is) may);
+  report-unlocked = λ l t k on n. gets-effect l t k 0x84 on (omega arith) (wrong-state-does l (recordAt t k) 0x84 (on .kind-is) (report-illegal l (recordAt t k) n));
   report-past = λ l t k on s h. gets-effect l t k 0x84 on (omega arith) (report-past-does l (recordAt t k) (on .kind-is) s h);
   report = λ l t k on s h. gets-effect l t k 0x84 on (omega arith) (report-does l (recordAt t k) (on .kind-is) s h);
   state-reply = λ l t k on. gets-effect l t k 0x85 on (omega arith) (state-does l (recordAt t k) (on .kind-is));
@@ -197,7 +212,7 @@ requests = record {
 -- ---- the longest reply
 
 -- a portion of 128 bytes stands behind the header and two lengths
-longest-reached : (l : Lent) (t : List ℕ) (k : ℕ) → Reaches l t k 0x84 20 → state (recordAt t k) ≡ CONFIG_LOCKED → mostPortion ≤ num (l .request) 18 2
+longest-reached : (l : Lent) (t : List ℕ) (k : ℕ) → Reaches l t k 0x84 20 → LockStands (recordAt t k) → mostPortion ≤ num (l .request) 18 2
     → num (l .request) 16 2 + mostPortion ≤ reportTotal (recordAt t k) → step (Request l) t .value ≡ mostReply
 longest-reached l t k on s asks fits =
     let q = l .request in

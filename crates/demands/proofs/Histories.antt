@@ -119,7 +119,7 @@ module _ (i : Identity) where
     tells-more es (Turn.locks n on z a l) s =
         let ran : RanSince i (e ∷ es) = ⊎-elim (λ x. from-lock e n on a x) (λ x. later e x) (s .if-locked n on l) in
         record { if-dead = λ d. ran; if-locked = λ m o x. inr ran; if-running = λ o x. inr ran }
-    tells-more es (Turn.starts z a l) s = record {
+    tells-more es (Turn.starts z a q l) s = record {
       if-dead = λ d. clash (sym (live-in r 1 z) ∙ d);
       if-locked = λ n on x.
           ⊎-elim
@@ -144,7 +144,7 @@ module _ (i : Identity) where
   -- ---- from the history to RUN
 
   -- the place stays
-  found-after : (h : List Call) (t : List ℕ) → find i (records (run step h t)) ≡ find i (records t)
+  pub found-after : (h : List Call) (t : List ℕ) → find i (records (run step h t)) ≡ find i (records t)
   unfolding run
   found-after [] t = refl
   found-after (c ∷ h) t = found-after h (step c t .table) ∙ place-stays c i t
@@ -183,7 +183,7 @@ module _ (i : Identity) where
         go : Turn i (seen step c t) (recordAt t k) (recordAt (step c t .table) k) → Runs on (recordAt (step c t .table) k)
         go (Turn.stays q) = rw q r
         go (Turn.locks n o z a x) = absurd (omega (arith, z, r .state-is))
-        go (Turn.starts z a x) = absurd (omega (arith, z, r .state-is))
+        go (Turn.starts z a q x) = absurd (omega (arith, z, r .state-is))
         go (Turn.ends g d) = absurd (all-first l (rw (r .terms-are) at (g (running-live (recordAt t k) r))))
 
     -- a locked record runs once a start with its nonce is served
@@ -206,7 +206,7 @@ module _ (i : Identity) where
             → Turn i (seen step c t) (recordAt t k) (recordAt (step c t .table) k) → Runs on (recordAt (run step h (step c t .table)) k)
         go there lasts quiet on-with (Turn.stays p) = on-with (rw p r)
         go there lasts quiet on-with (Turn.locks m o z b x) = absurd (omega (arith, z, r .state-is))
-        go there lasts quiet on-with (Turn.starts z b x) = still-runs on h (step c t .table) there (rw (r .terms-are) at x) lasts
+        go there lasts quiet on-with (Turn.starts z b q x) = still-runs on h (step c t .table) there (rw (r .terms-are) at x) lasts
         go there lasts quiet on-with (Turn.ends g d) = absurd (quiet (rw (r .terms-are) at (g (locked-live (recordAt t k) r))))
 
     -- and so does one that was locked, whatever came before

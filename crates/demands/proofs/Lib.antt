@@ -10,4 +10,7 @@ pub mod Histories
 pub mod Places
 pub mod Named
 pub mod Swaps
+pub mod Lasting
+pub mod ReportStays
 pub mod Wrong
+pub mod WrongInRun

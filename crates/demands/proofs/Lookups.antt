@@ -1,5 +1,5 @@
 -- Where an interface's record stands: calls leave it there. Assumes nothing.
-use mathlib.Core.Path.{_≡_, refl, sym, _∙_}
+use mathlib.Core.Path.{_≡_, refl, sym, ap, _∙_}
 use mathlib.Core.Bool.{true}
 use mathlib.Core.List.{List, [], _∷_}
 use Prim.Native.Nat.{ℕ, suc}
@@ -9,6 +9,7 @@ use Rattle.rules.specs.Call.{Call, step}
 use Rattle.rules.specs.Identity.{same}
 use Rattle.rules.specs.Record.{Rec}
 use Rattle.rules.specs.Table.{records, identity, findFrom, find}
+use Rattle.rules.specs.declared.Found.{Found}
 use Rattle.rules.specs.declared.Found.the-variants.{At, Nothing}
 use Rattle.rules.specs.declared.Identity.{Identity}
 use Rattle.rules.proofs.Identities.{same-sym, same-like}
@@ -37,6 +38,15 @@ module _ (i who : Identity) (rs : List Rec) (k : ℕ) (found : find i rs ≡ At 
       let mine = find-at i k rs found .here in
       let its = find-at who k rs e .here in
       same-sym i who ∙ same-like who (identity (getD rs k [])) i its ∙ same-sym (identity (getD rs k [])) i ∙ mine
+
+-- and at one place only
+place-of : Found → ℕ
+place-of (At k) = k
+place-of Nothing = 0
+
+pub one-place : (i : Identity) (rs : List Rec) (j k : ℕ) → find i rs ≡ At j → find i rs ≡ At k → j ≡ k
+unfolding place-of
+one-place i rs j k p q = ap place-of (sym p ∙ q)
 
 -- ---- records with the same identities
 

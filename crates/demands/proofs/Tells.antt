@@ -7,7 +7,7 @@ use native.Mathlib.Omega.{arith}
 use borrow.Author.Tests.{eq-eqb, ne-eqb, eqb-true, eqb-false}
 use lib.Dec.{eqb, ltb}
 use lib.ListN.{length}
-use Rattle.rules.specs.Bytes.{if_then_else_, byte, part}
+use Rattle.rules.specs.Bytes.{if_then_else_, byte, part, sameBytes}
 use Rattle.rules.specs.Call.{Outcome, refused, served, carriedOut, changed, leastReply, leastRequest, answered, registerWritten, happened, Call, Request, RegisterWrite, DeviceWide, FirmwareQuestion, step}
 use Rattle.rules.specs.Change.{ruleOf, hits, writeHits, live, moved}
 use Rattle.rules.specs.Identity.{identityAt, identityOf}
@@ -25,6 +25,7 @@ use Rattle.rules.proofs.Checks.{serves}
 use Rattle.rules.proofs.Moved.{moved-is}
 use Rattle.rules.proofs.ServedCall.{OnRecord, named-after}
 use Rattle.demands.specs.Machine.{replyOf, seen}
+use Rattle.demands.specs.ReportStays.{AcceptedStart}
 use Rattle.demands.specs.Histories.{Terms, termsOf, Asks, AcceptedLock, ServedStart, sendsToError, Ends}
 use Rattle.demands.proofs.Lists.{equal-then-same, front-is, payload-same, kind-same}
 use Rattle.demands.proofs.Lookups.{found-too, nowhere-too}
@@ -66,6 +67,11 @@ module _ (l : Lent) (t : List ℕ) where
 
   served-is : (v : Verdict) → verdict (l .request) (records t) ≡ v → answered l t .number ≡ 0 → answered l t ≡ carriedOut v l t
   served-is v e z = past z .is ∙ ap (λ (x : Verdict). carriedOut x l t) e
+
+-- record k was in CONFIG_LOCKED, and runs
+pub record Started (t : List ℕ) (k : ℕ) (c : Call) : Type 0 where
+  pub state-was : state (recordAt t k) ≡ 1
+  pub record-is : recordAt (step c t .table) k ≡ running (recordAt t k)
 
 module _ (i : Identity) (t : List ℕ) (k : ℕ) (found : find i (records t) ≡ At k) where
   abbrev r : Rec
@@ -156,6 +162,39 @@ module _ (i : Identity) (t : List ℕ) (k : ℕ) (found : find i (records t) ≡
   started-by c n on a locked =
       let e = a .call-is in
       rw e (started-request (a .lent) n on (a .asks) (rw e at (a .served)) (a .carries) locked)
+
+  -- ---- a start that replied 06h
+
+  data StartGives (l : Lent) : Effect → Type 0 where
+    failed : (code : ℕ) → StartGives l (fails code (l .request) r)
+    accepted : state r ≡ 1 → StartGives l (does (message 0x06 (l .request) []) (running r))
+
+  start-either : (l : Lent) → kindOf (l .request) ≡ 0x86 → StartGives l (effect l r)
+  unfolding effect legalIn startInterface
+  start-either l e = rw e (go (eqb (state r) 1) refl (sameBytes (part (l .request) 16 32) (nonce r)))
+    where
+      go : (a : Bool) → eqb (state r) 1 ≡ a → (b : Bool)
+          → StartGives l (if not a then fails 0x04 (l .request) r
+          else if not b then fails 0x102 (l .request) r
+          else does (message 0x06 (l .request) []) (running r))
+      go false p b = failed 0x04
+      go true p false = failed 0x102
+      go true p true = accepted (eqb-true (state r) 1 p)
+
+  start-told : (l : Lent) (e : Effect) → StartGives l e → e .reply ≡ message 0x06 (l .request) [] → recordAt (answered l t .table) k ≡ e .rec → Started t k (Request l)
+  start-told l e (failed code) q is = absurd (omega (arith, kind-same 0x7f 0x06 (l .request) (l .request) _ [] q))
+  start-told l e (accepted z) q is = record { state-was = z; record-is = is }
+
+  accepted-request : (l : Lent) → Asks i 0x86 48 l → answered l t .number ≡ 0 → replyOf (seen step (Request l) t) ≡ message 0x06 (l .request) [] → Started t k (Request l)
+  unfolding exactLength
+  accepted-request l a z q =
+      let z48 : _≡_ {A = ℕ} 48 0 → ⊥ = λ e. omega arith in
+      start-told l (effect l r) (start-either l (a .kind-is)) (sym (reply-is l 0x86 48 a refl z48 z) ∙ q) (record-is l 0x86 48 a refl z48 z)
+
+  pub accepted-start : (c : Call) → AcceptedStart i (seen step c t) → Started t k c
+  accepted-start c a =
+      let e = a .call-is in
+      rw e (accepted-request (a .lent) (a .asks) (rw e at (a .served)) (rw e at (a .reply-is)))
 
   -- ---- what ends it
 

@@ -97,7 +97,7 @@ sees l e = record { call = Request l; number = 0; value = length (e .reply); buf
 pub data Turn (i : Identity) (e : Seen) (r r′ : Rec) : Type 0 where
   stays : r′ ≡ r → Turn i e r r′
   locks : (n : List ℕ) (on : Terms) → state r ≡ 0 → AcceptedLock i n on e → Locked n on r′ → Turn i e r r′
-  starts : state r ≡ 1 → ServedStart i (nonce r) e → Runs (terms r) r′ → Turn i e r r′
+  starts : state r ≡ 1 → ServedStart i (nonce r) e → r′ ≡ running r → Runs (terms r) r′ → Turn i e r r′
   ends : (live r ≡ true → Ends i (terms r) e) → live r′ ≡ false → Turn i e r r′
 
 -- a change that is for the record if `p` says so
@@ -157,7 +157,7 @@ module _ (i : Identity) (t : List ℕ) (k : ℕ) (found : find i (records t) ≡
         served = refl;
         carries = same-then-equal (part (l .request) 16 32) (nonce r) n;
       })
-      (running-is r wide)
+      refl (running-is r wide)
   effect-turn l on e (Becomes.clears kd) =
       ends (λ a. Ends.stopped l refl (asks i l t k found (on .told) 0x87 16 kd refl) refl (front-is (message 0x07 (l .request) []) (l .reply))) (cleared-dead r wide 0 refl)
 

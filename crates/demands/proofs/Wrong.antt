@@ -16,8 +16,7 @@ use Rattle.rules.specs.Report.{contentNumber, sizeNumber, readNumber, readField
 use Rattle.rules.specs.Request.{kindOf, header, message, exactLength, legalIn, verdict, locked, lockInterface, running, effect}
 use Rattle.rules.specs.Table.{cut, records, recordAt, all, distinct, lengthOk, tableNumber, findFrom, find}
 use Rattle.rules.specs.declared.Event.the-variants.{Multicast}
-use Rattle.rules.specs.declared.Found.{Found}
-use Rattle.rules.specs.declared.Found.the-variants.{At, Nothing}
+use Rattle.rules.specs.declared.Found.the-variants.{At}
 use Rattle.rules.specs.declared.Identity.{Identity}
 use Rattle.rules.specs.declared.ReportFields.{ReportFields}
 use Rattle.rules.proofs.Bools.{clash}
@@ -29,6 +28,7 @@ use Rattle.demands.specs.Machine.{Seen, bufferOf, run, trace, seen, none
 use Rattle.demands.specs.Reports.{Writer, Wrote, reader, ReportsFixed, ReportsSurvive}
 use Rattle.demands.specs.Swaps.{DifferentInterfacesSwap}
 use Rattle.demands.specs.Wrong.{card, interface, versionAsked, lockAsked, startAsked, constant, onlyRefuses, onlyErrs, oneReply, leavesTable, runsAtLock, inventsCount, addsByte, showsRefused, writesNothing}
+use Rattle.demands.proofs.Lookups.{one-place}
 use Rattle.demands.proofs.Swaps.{anywhere}
 
 -- the card is accepted, with its interface unlocked and in record 0
@@ -45,7 +45,7 @@ unfolding records cut findFrom same num
 card-found = refl
 
 -- two numbers that differ
-differ : {A : Type 0} (m n : ℕ) → m ≡ n → (m ≡ n → ⊥) → A
+pub differ : {A : Type 0} (m n : ℕ) → m ≡ n → (m ≡ n → ⊥) → A
 differ m n e f = absurd (f e)
 
 -- the lock reaches it, and meets 01's conditions
@@ -191,14 +191,10 @@ ran = record {
 }
 
 -- the card as it was: its one interface does not run
-place-of : Found → ℕ
-place-of (At k) = k
-place-of Nothing = 0
-
 not-running : InRun interface card → ⊥
-unfolding records cut findFrom same num place-of
+unfolding records cut findFrom same num
 not-running x =
-    let k : x .place ≡ 0 = ap place-of (sym (x .found) ∙ card-found) in
+    let k : x .place ≡ 0 = one-place interface (records card) (x .place) 0 (x .found) card-found in
     differ 0 2 (rw k at (x .running)) (λ e. omega arith)
 
 pub leaves-table : RunExactlyWhen leavesTable → ⊥

@@ -10,7 +10,7 @@ use Rattle.rules.specs.Call.{join, refused, served, mostReply, Request, Registe
 use Rattle.rules.specs.Change.{ruleOf, hits, writeHits, moved, differing, lets}
 use Rattle.rules.specs.Identity.{identityAt, identityOf}
 use Rattle.rules.specs.Lock.{signed, wholePages, supported, stays, shifted}
-use Rattle.rules.specs.Record.{Rec, CONFIG_UNLOCKED, CONFIG_LOCKED, state, rangeCount, rangeOf, nonce, offsetOk}
+use Rattle.rules.specs.Record.{Rec, CONFIG_UNLOCKED, CONFIG_LOCKED, RUN, state, rangeCount, rangeOf, nonce, offsetOk}
 use Rattle.rules.specs.Report.{mostPortion, reportTotal, portionBytes}
 use Rattle.rules.specs.Request.{Lent, kindOf, exactLength, legalIn, errorMessage, message, capabilities, askedFlags, askedStream, askedOffset, secure, locked, running, cleared}
 use Rattle.rules.specs.Table.{records, recordAt, find, tableNumber}
@@ -38,6 +38,11 @@ pub record Reaches (l : Lent) (t : List ℕ) (k kind long : ℕ) : Type 0 where
   pub kind-is : kindOf (l .request) ≡ kind
   pub length-is : length (l .request) ≡ long
   pub found : find (identityAt (l .request) 4) (records t) ≡ At k
+
+-- 02, 1/12: the states in which a report may be asked for are 1 and 2, those in which a lock stands
+pub data LockStands (r : Rec) : Type 0 where
+  in-locked : state r ≡ CONFIG_LOCKED → LockStands r
+  in-run : state r ≡ RUN → LockStands r
 
 -- what 01 asks of a lock, each condition by itself
 pub record MayLock (l : Lent) (r : Rec) : Type 0 where
@@ -95,10 +100,12 @@ module _ (next : Machine) where
     -- otherwise accepted
     pub lock : (l : Lent) (t : List ℕ) (k : ℕ) → Reaches l t k 0x83 36 → MayLock l (recordAt t k)
         → Gets l t k (message 0x03 (l .request) (l .nonce)) (locked (l .request) (l .nonce) (l .session) (recordAt t k))
-    -- report: OFFSET at or above the total is 01h; else a portion
-    pub report-past : (l : Lent) (t : List ℕ) (k : ℕ) → Reaches l t k 0x84 20 → state (recordAt t k) ≡ CONFIG_LOCKED → reportTotal (recordAt t k) ≤ num (l .request) 16 2
+    -- report: without a lock 04h; OFFSET at or above the total is 01h; else a portion
+    pub report-unlocked : (l : Lent) (t : List ℕ) (k : ℕ) → Reaches l t k 0x84 20 → (LockStands (recordAt t k) → ⊥)
+        → Gets l t k (errorMessage 0x04 0 (l .request)) (recordAt t k)
+    pub report-past : (l : Lent) (t : List ℕ) (k : ℕ) → Reaches l t k 0x84 20 → LockStands (recordAt t k) → reportTotal (recordAt t k) ≤ num (l .request) 16 2
         → Gets l t k (errorMessage 0x01 0 (l .request)) (recordAt t k)
-    pub report : (l : Lent) (t : List ℕ) (k : ℕ) → Reaches l t k 0x84 20 → state (recordAt t k) ≡ CONFIG_LOCKED → num (l .request) 16 2 < reportTotal (recordAt t k)
+    pub report : (l : Lent) (t : List ℕ) (k : ℕ) → Reaches l t k 0x84 20 → LockStands (recordAt t k) → num (l .request) 16 2 < reportTotal (recordAt t k)
         → Gets l t k (message 0x04 (l .request) (portionBytes (recordAt t k) (num (l .request) 16 2) (num (l .request) 18 2))) (recordAt t k)
     pub state-reply : (l : Lent) (t : List ℕ) (k : ℕ) → Reaches l t k 0x85 16 → Gets l t k (message 0x05 (l .request) (state (recordAt t k) ∷ [])) (recordAt t k)
     -- start: a different nonce is 102h INVALID_NONCE and changes nothing; an equal one is spent
@@ -112,7 +119,7 @@ module _ (next : Machine) where
   -- the longest reply is 148 bytes: none is longer, and a portion of 128 bytes makes one so long
   pub record LongestReply : Type 0 where
     pub at-most : (l : Lent) (t : List ℕ) → next (Request l) t .value ≤ mostReply
-    pub reached : (l : Lent) (t : List ℕ) (k : ℕ) → Reaches l t k 0x84 20 → state (recordAt t k) ≡ CONFIG_LOCKED → mostPortion ≤ num (l .request) 18 2
+    pub reached : (l : Lent) (t : List ℕ) (k : ℕ) → Reaches l t k 0x84 20 → LockStands (recordAt t k) → mostPortion ≤ num (l .request) 18 2
         → num (l .request) 16 2 + mostPortion ≤ reportTotal (recordAt t k) → next (Request l) t .value ≡ mostReply
 
   -- ---- events

@@ -5,4 +5,6 @@ pub mod Exactly
 pub mod Reports
 pub mod Histories
 pub mod Swaps
+pub mod ReportStays
 pub mod Wrong
+pub mod WrongInRun

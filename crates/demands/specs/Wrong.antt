@@ -46,19 +46,20 @@ constant answer c t = leaving (answer c) t
 abbrev pub onlyRefuses : Machine
 onlyRefuses c t = refused 4 (bufferOf c) t
 
+-- one that is wrong about requests, and right about every other call
+abbrev pub wrongly : (Lent → List ℕ → Outcome) → Machine
+wrongly requested (Request l) t = requested l t
+wrongly requested (RegisterWrite id class) t = step (RegisterWrite id class) t
+wrongly requested (DeviceWide e) t = step (DeviceWide e) t
+wrongly requested FirmwareQuestion t = step FirmwareQuestion t
+
 -- one that answers every request with TDISP_ERROR: 01h
 abbrev pub onlyErrs : Machine
-onlyErrs (Request l) t = served (errorMessage 0x01 0 (l .request)) l t
-onlyErrs (RegisterWrite id class) t = step (RegisterWrite id class) t
-onlyErrs (DeviceWide e) t = step (DeviceWide e) t
-onlyErrs FirmwareQuestion t = step FirmwareQuestion t
+onlyErrs = wrongly (λ (l : Lent) (t : List ℕ). served (errorMessage 0x01 0 (l .request)) l t)
 
 -- one fixed reply for all: a stop's
 abbrev pub oneReply : Machine
-oneReply (Request l) t = served (message 0x07 (l .request) []) l t
-oneReply (RegisterWrite id class) t = step (RegisterWrite id class) t
-oneReply (DeviceWide e) t = step (DeviceWide e) t
-oneReply FirmwareQuestion t = step FirmwareQuestion t
+oneReply = wrongly (λ (l : Lent) (t : List ℕ). served (message 0x07 (l .request) []) l t)
 
 -- one that leaves the table alone
 abbrev pub leavesTable : Machine
@@ -69,12 +70,10 @@ abbrev pub early : Rec → Rec
 early r = if eqb (state r) CONFIG_LOCKED then running r else r
 
 abbrev pub runsAtLock : Machine
-runsAtLock (Request l) t =
+runsAtLock =
+    wrongly (λ (l : Lent) (t : List ℕ).
     if eqb (kindOf (l .request)) 0x86 then served (message 0x06 (l .request) []) l t
-    else leaving (step (Request l) t) (join (map early (records (step (Request l) t .table))))
-runsAtLock (RegisterWrite id class) t = step (RegisterWrite id class) t
-runsAtLock (DeviceWide e) t = step (DeviceWide e) t
-runsAtLock FirmwareQuestion t = step FirmwareQuestion t
+    else leaving (step (Request l) t) (join (map early (records (step (Request l) t .table)))))
 
 -- an invented moved count
 abbrev pub counted : Outcome → Outcome

@@ -20,6 +20,7 @@ pub mod Sizes
 pub mod Writes
 pub mod ReadBack
 pub mod WriteBack
+pub mod Shown
 pub mod RecordReport
 pub mod Portions
 pub mod Overs

@@ -5,8 +5,8 @@ use mathlib.Core.List.{List, _++_}
 use mathlib.Core.Logic.{_⊎_, inl, inr}
 use Prim.Native.Nat.{ℕ, zero, suc, _+_, _-_, _/_, _≤_, _<_}
 use native.Mathlib.Omega.{arith}
-use lib.ListN.{length, take, drop, length-append, List·getD-append}
-use lib.Seq.{getD-take, getD-drop, getD-append-add, length-take-le}
+use lib.ListN.{length, take, drop, length-append, length-take, length-drop, List·getD-append}
+use lib.Seq.{getD-take, getD-drop, getD-append-add, length-take-le, ext-getD}
 use Rattle.rules.specs.Bytes.{byte, Bytes, num, bytesOf, part, over, zeroAt, zeros}
 use Rattle.rules.proofs.Every.{every-same, every-true}
 use Rattle.rules.proofs.Numbers.{bytes-append, bytes-part}
@@ -55,6 +55,14 @@ pub num-same : (s t : List ℕ) (b n : ℕ) → ((k : ℕ) → b ≤ k → k < b
 unfolding num
 num-same s t b zero h = refl
 num-same s t b (suc n) h = rw (h b (omega arith) (omega arith), num-same s t (b + 1) n (λ k l m. h k (omega arith) (omega arith)))
+
+-- and a part
+pub part-same : (s t : List ℕ) (b n : ℕ) → length s ≡ length t → ((k : ℕ) → b ≤ k → k < b + n → byte s k ≡ byte t k) → part s b n ≡ part t b n
+unfolding part
+part-same s t b n e h =
+    ext-getD 0 (take n (drop b s)) (take n (drop b t)) (rw (length-take, length-take, length-drop, length-drop, e)) (λ i l.
+    let m : i < n = omega (arith, l, length-take n (drop b s)) in
+    rw (getD-take, getD-take, getD-drop, getD-drop, h (b + i) (omega arith) (omega arith)))
 
 -- bytes are zero in the one where they are in the other
 pub zeros-same : (s t : List ℕ) (first last : ℕ) → ((k : ℕ) → first ≤ k → k ≤ last → byte s k ≡ byte t k) → zeros s first last ≡ zeros t first last

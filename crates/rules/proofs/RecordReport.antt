@@ -124,8 +124,8 @@ module _ (r : Rec) (long : length r ≡ recordBytes) (b : Bytes r) (ok : recordO
   report-typed = record {
     info-fits = omega (arith, num-lt r 12 2 b);
     msix-fits = omega (arith, msix-most (lockMsix r) (msixControl r), num-lt r 14 2 b);
-    lnr-fits = num-lt r 16 2 b;
-    tph-fits = num-lt r 20 4 b;
+    lnr-fits = num-lt r _ 2 b;
+    tph-fits = num-lt r _ 4 b;
     n-fits = omega (arith, count-most r ok);
     l-fits = num-lt r 200 4 b;
     ranges-typed = field-typed;

@@ -60,11 +60,12 @@ exactLength kind =
     else if eqb kind 0x87 then 16
     else 0
 
--- and the states in which it is legal
+-- and the states in which it is legal; 02, 1/12, of 84h: allow states 1 and 2
 unfoldable pub legalIn : ℕ → ℕ → Bool
 legalIn kind s =
     if eqb kind 0x83 then eqb s CONFIG_UNLOCKED
-    else if eqb kind 0x84 || eqb kind 0x86 then eqb s CONFIG_LOCKED
+    else if eqb kind 0x84 then eqb s CONFIG_LOCKED || eqb s RUN
+    else if eqb kind 0x86 then eqb s CONFIG_LOCKED
     else true
 
 abbrev pub lookedUp : Found → Verdict
