@@ -29,6 +29,8 @@ struct tdisp_yes { uint32_t number; uint32_t yes; };
 
 /* Answers a request (numbers 1 to 6). Served: the reply stands at the front of `reply`, `length` is its length, at most 148 bytes, and the
  * rest of the buffer stays; the record that the request names is changed in `table` as the request says. A TDISP_ERROR reply is served.
+ * LOCK_INTERFACE is legal in CONFIG_UNLOCKED, GET_DEVICE_INTERFACE_REPORT in CONFIG_LOCKED and RUN, START_INTERFACE in CONFIG_LOCKED, the other
+ * requests in any state; elsewhere the reply is TDISP_ERROR 04h. A report has the same bytes in CONFIG_LOCKED and RUN.
  * `nonce`: 32 bytes for a lock; `ready`: 0, or anything else if they are ready. `streams`: bit k of byte j says that stream 8j+k is secure.
  * `session`: the number of the session that the request came over. */
 struct tdisp_answer tdisp_respond(const uint8_t *request, size_t request_len, uint8_t *reply, size_t reply_len,

@@ -160,10 +160,19 @@ static void worked_lines(void) {
     replied("stop: 07h, lock fields and nonce are cleared", ask(stop), stopped);
 }
 
+static const uint8_t from_0[4] = {0, 0, 0xff, 0xff};
+
+/* A report of 88 bytes, asked for whole, at its last byte, and past it. */
+static void reported(uint32_t id, const uint8_t report[92]) {
+    static const uint8_t from_87[4] = {87, 0, 0xff, 0xff}, from_88[4] = {88, 0, 0, 0};
+    replied("its report, first page 0", ask(message(0x84, id, from_0, 4)), message(0x04, id, report, 92));
+    replied("its last byte", ask(message(0x84, id, from_87, 4)), message(0x04, id, "\1\0\0\0\xb3", 5));
+    replied("OFFSET at the total: 01h", ask(message(0x84, id, from_88, 4)), error(id, 0x01, 0));
+}
+
 /* Two interfaces, 0100h of no segment and 0100h of segment FFh; the second has a range, words and information. */
 static void requests(void) {
     static const uint8_t capabilities[28] = {[4] = 0xfe, [20] = 5, [25] = 64, [26] = 1, [27] = 1};
-    static const uint8_t from_0[4] = {0, 0, 0xff, 0xff}, from_87[4] = {87, 0, 0xff, 0xff}, from_88[4] = {88, 0, 0, 0};
     uint8_t report[4 + 88] = {88, 0, 0, 0};
     const uint32_t id = 0x1ff0100;
     record(0, 0x100);
@@ -187,9 +196,13 @@ static void requests(void) {
     uint8_t *b = report + 4;
     put(b, 0x1f, 2), put(b + 4, 0x8123, 2), put(b + 6, 0x9456, 2), put(b + 8, 0xa789abcd, 4), b[12] = 1;
     put(b + 24, 2, 4), put(b + 28, 0x0f, 2), put(b + 30, 9, 2), b[32] = 52, memcpy(b + 36, r + 204, 52);
-    replied("its report, first page 0", ask(message(0x84, id, from_0, 4)), message(0x04, id, report, 92));
-    replied("its last byte", ask(message(0x84, id, from_87, 4)), message(0x04, id, "\1\0\0\0\xb3", 5));
-    replied("OFFSET at the total: 01h", ask(message(0x84, id, from_88, 4)), error(id, 0x01, 0));
+    reported(id, report);
+    started(r);
+    replied("start", ask(message(0x86, id, wanted_nonce, 32)), message(0x06, id, "", 0));
+    reported(id, report); /* 02, 1/12: the bytes are the same in both states */
+    cleared(r, 3);
+    check("class 4: ERROR", moves(tdisp_register_write(table, lent, id, 4), 0, 1));
+    replied("a report in state 3: 04h", ask(message(0x84, id, from_0, 4)), error(id, 0x04, 0));
 }
 
 /* The ready mark is 0 or anything else; stream and session cross as bytes of any value. */

@@ -8,10 +8,11 @@ import sys
 import make_table
 
 STATES = ["CONFIG_UNLOCKED", "CONFIG_LOCKED", "RUN", "ERROR"]
+ANY = (0, 1, 2, 3)
 REQUESTS = {
-    0x81: ("GET_TDISP_VERSION", 16, None), 0x82: ("GET_TDISP_CAPABILITIES", 20, None), 0x83: ("LOCK_INTERFACE", 36, 0),
-    0x84: ("GET_DEVICE_INTERFACE_REPORT", 20, 1), 0x85: ("GET_DEVICE_INTERFACE_STATE", 16, None),
-    0x86: ("START_INTERFACE", 48, 1), 0x87: ("STOP_INTERFACE", 16, None),
+    0x81: ("GET_TDISP_VERSION", 16, ANY), 0x82: ("GET_TDISP_CAPABILITIES", 20, ANY), 0x83: ("LOCK_INTERFACE", 36, (0,)),
+    0x84: ("GET_DEVICE_INTERFACE_REPORT", 20, (1, 2)), 0x85: ("GET_DEVICE_INTERFACE_STATE", 16, ANY),
+    0x86: ("START_INTERFACE", 48, (1,)), 0x87: ("STOP_INTERFACE", 16, ANY),
 }
 REPLIES = {
     1: "TDISP_VERSION", 2: "TDISP_CAPABILITIES", 3: "LOCK_INTERFACE_RESPONSE", 4: "DEVICE_INTERFACE_REPORT",
@@ -122,13 +123,13 @@ def respond(card, q, s):
         return error(0x41)
     if q[1] not in REQUESTS:
         return error(0x07, q[1])
-    _, length, state = REQUESTS[q[1]]
+    _, length, states = REQUESTS[q[1]]
     if len(q) != length:
         return error(0x01)
     r = card.find(num(q, 4, 4))
     if r is None:
         return error(0x101)
-    if state is not None and r[4] != state:
+    if r[4] not in states:
         return error(0x04)
     if q[1] == 0x81:
         return reply(1, b"\x01\x10")

@@ -208,6 +208,10 @@ mod archive {
     /// Answers a request (numbers 1 to 6). Served: the reply stands at the front of `reply`, `length` is its length, at most 148
     /// bytes, and the rest of the buffer stays; the interface that the request names is changed in `table` as the request says.
     ///
+    /// LOCK_INTERFACE is legal in CONFIG_UNLOCKED, GET_DEVICE_INTERFACE_REPORT in CONFIG_LOCKED and RUN, START_INTERFACE in
+    /// CONFIG_LOCKED, the other requests in any state; elsewhere the reply is TDISP_ERROR 04h. A report has the same bytes in
+    /// CONFIG_LOCKED and RUN.
+    ///
     /// `nonce`: 32 fresh random bytes for a lock, and `ready` says whether they are there; `streams`: 32 bytes, bit k of byte j
     /// says that stream 8j+k is secure; `session`: the session that the request came over.
     pub fn respond(

@@ -3,10 +3,11 @@ use crate::ask::ask;
 use crate::ask::header;
 use crate::ask::kept;
 use crate::ask::unlocked;
+use crate::requests::report_request;
 use wire::number::put32;
 
 // A TDISP_ERROR to requester 0100h (1) or 0200h (2).
-fn error_reply(requester: u8, code: u32, datum: u32) -> [u8; 24] {
+pub(crate) fn error_reply(requester: u8, code: u32, datum: u32) -> [u8; 24] {
     let mut e = [0u8; 24];
     e[0] = 0x10;
     e[1] = 0x7f;
@@ -83,8 +84,17 @@ fn lock_error(name: &[u8], flags: u8, stream: u8, offset: u8, ready: bool, code:
     error(name, &q, unlocked(), ready, error_reply(1, code, 0));
 }
 
+// The host of source document 000 sets bit 4 with every lock.
 fn lock_errors() {
     lock_error(b"error 01h for a lock with flag bit 1", 2, 3, 0, true, 0x01);
+    lock_error(
+        b"error 01h for a lock with flag bit 4",
+        16,
+        3,
+        0,
+        true,
+        0x01,
+    );
     lock_error(b"error 01h for a lock with offset 1", 0, 3, 1, true, 0x01);
     lock_error(
         b"error 104h for a lock with stream 4, which is not secure",
@@ -137,8 +147,31 @@ fn start_errors() {
     );
 }
 
+// In state 0 and in state 3.
+fn report_errors() {
+    let request = report_request(1, 0, 16);
+    let want = error_reply(1, 0x04, 0);
+    let mut failed = unlocked();
+    failed[4] = 3;
+    error(
+        b"error 04h for a report in state 0",
+        &request,
+        unlocked(),
+        true,
+        want,
+    );
+    error(
+        b"error 04h for a report in state 3",
+        &request,
+        failed,
+        true,
+        want,
+    );
+}
+
 pub(crate) fn cases() {
     header_errors();
     lock_errors();
     start_errors();
+    report_errors();
 }

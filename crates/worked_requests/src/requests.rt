@@ -5,6 +5,7 @@ use crate::ask::kept;
 use crate::ask::unlocked;
 use crate::lock;
 use compare::record::full_record;
+use wire::number::put16;
 
 // A request with no payload.
 fn plain(name: &[u8], kind: u8, table: &mut [u8; 256], want: &[u8]) {
@@ -13,7 +14,7 @@ fn plain(name: &[u8], kind: u8, table: &mut [u8; 256], want: &[u8]) {
 }
 
 // GET_DEVICE_INTERFACE_STATE, and the state that it tells.
-fn state(name: &[u8], table: &mut [u8; 256], tells: u8) {
+pub(crate) fn state(name: &[u8], table: &mut [u8; 256], tells: u8) {
     let mut want = [0u8; 17];
     want[0] = 0x10;
     want[1] = 0x05;
@@ -22,16 +23,21 @@ fn state(name: &[u8], table: &mut [u8; 256], tells: u8) {
     plain(name, 0x85, table, &want);
 }
 
-// GET_DEVICE_INTERFACE_REPORT of requester 0100h (1) or 0000h (0): its OFFSET; LENGTH is 65,535.
-fn report(name: &[u8], requester: u8, offset: u8, table: &mut [u8; 256], want: &[u8]) {
+// GET_DEVICE_INTERFACE_REPORT for requester 0100h (1) or 0000h (0).
+pub(crate) fn report_request(requester: u8, offset: u16, length: u16) -> [u8; 20] {
     let mut q = [0u8; 20];
     q[0] = 0x10;
     q[1] = 0x84;
     q[5] = requester;
-    q[16] = offset;
-    q[18] = 0xff;
-    q[19] = 0xff;
-    ask(name, &q, table, true, want);
+    put16(&mut q, 16, offset);
+    put16(&mut q, 18, length);
+    q
+}
+
+// LENGTH is 65,535.
+fn report(name: &[u8], requester: u8, offset: u16, table: &mut [u8; 256], want: &[u8]) {
+    let request = report_request(requester, offset, 65535);
+    ask(name, &request, table, true, want);
 }
 
 // Requests that any state serves.
@@ -64,8 +70,8 @@ fn while_locked(table: &mut [u8; 256]) {
     );
 }
 
-// Start with the nonce that the lock replied; stop.
-fn after_the_lock(table: &mut [u8; 256]) {
+// With the nonce that the lock replied.
+pub(crate) fn start(table: &mut [u8; 256]) {
     ask(
         b"START_INTERFACE",
         b"\x10\x86\x00\x00\x00\x01\x00\x00\x00\x00\x00\x00\x00\x00\x00\x00\x00\x01\x02\x03\x04\x05\x06\x07\x08\x09\x0a\x0b\x0c\x0d\x0e\x0f\x10\x11\x12\x13\x14\x15\x16\x17\x18\x19\x1a\x1b\x1c\x1d\x1e\x1f",
@@ -73,13 +79,21 @@ fn after_the_lock(table: &mut [u8; 256]) {
         true,
         b"\x10\x06\x00\x00\x00\x01\x00\x00\x00\x00\x00\x00\x00\x00\x00\x00",
     );
-    state(b"GET_DEVICE_INTERFACE_STATE, state 2", table, 2);
+}
+
+pub(crate) fn stop(table: &mut [u8; 256]) {
     plain(
         b"STOP_INTERFACE",
         0x87,
         table,
         b"\x10\x07\x00\x00\x00\x01\x00\x00\x00\x00\x00\x00\x00\x00\x00\x00",
     );
+}
+
+fn after_the_lock(table: &mut [u8; 256]) {
+    start(table);
+    state(b"GET_DEVICE_INTERFACE_STATE, state 2", table, 2);
+    stop(table);
     state(b"GET_DEVICE_INTERFACE_STATE, state 0 again", table, 0);
 }
 

@@ -1,5 +1,6 @@
-//! An ordinary TDISP responder, written by hand from the paper 01, and for its open points from docs/DECISIONS.md, without a
-//! look at the proved code: that one's partner in tests, and the baseline of the benchmark. Words in quotes are 01's.
+//! An ordinary TDISP responder, written by hand from the papers 01 and 02, and for their open points from docs/DECISIONS.md,
+//! without a look at the proved code: that one's partner in tests, and the baseline of the benchmark. Words in quotes are 01's,
+//! or 02's where its request is named.
 //!
 //! A call first judges everything that it was lent, then writes. The judging functions return a `Result`, so a refusal leaves
 //! every buffer as it was.
@@ -422,10 +423,12 @@ impl Request {
         }
     }
 
+    /// The table's states; 02, 1/12, for the report: "Allow states 1 and 2; states 0 and 3 still get 04h."
     fn legal_in(self, state: u8) -> bool {
         match self {
             Request::Lock => state == CONFIG_UNLOCKED,
-            Request::GetReport | Request::Start => state == CONFIG_LOCKED,
+            Request::GetReport => state == CONFIG_LOCKED || state == RUN,
+            Request::Start => state == CONFIG_LOCKED,
             Request::GetVersion | Request::GetCapabilities | Request::GetState | Request::Stop => true,
         }
     }

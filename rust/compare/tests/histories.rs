@@ -1,11 +1,14 @@
 //! Demand 3 on random histories, of the proved responder (through the archive) and of the ordinary one: RUN exactly when, and the
-//! swap. Both get the same generator and the same assertions. What a history says is told from the calls and what came back,
+//! swap; and 02's 1/12, the report while a lock stands. Both get the same generator and the same assertions. What a history says is told from the calls and what came back,
 //! never from the table. Wrong responders show that the checks can fail.
 //!
 //! Demand 3: from an accepted table with all interfaces in CONFIG_UNLOCKED, after any history of calls, refused ones
 //! included: an interface is in RUN exactly when it had an accepted lock, later a served, well-formed start naming it with
 //! that lock's nonce, and since that lock no accepted stop naming it and no served change that 01 sends to ERROR.
 //! Neighbouring calls that name different interfaces may be swapped: same replies, same final table.
+//!
+//! 02, 1/12, of the report: "Allow states 1 and 2; states 0 and 3 still get 04h. ... The bytes are the same in both states, because
+//! a report shows how the interface was locked."
 
 use compare::calls::{Call, ORDINARY, Outcome, PROVED, Side, hex};
 use compare::cases::{self, RECORD, Rng, function_id, say, seed_of};
@@ -15,6 +18,7 @@ use tdisp::{FunctionId, Session};
 
 const HISTORIES: u64 = 3_000;
 const CALLS: usize = 60;
+const REPORT_HISTORIES: u64 = 1_000;
 const SWAPS: u64 = 100_000;
 const SWAP_HISTORIES: u64 = 500;
 const SWAP_CALLS: usize = 30;
@@ -31,7 +35,7 @@ macro_rules! of_each_responder {
     };
 }
 
-of_each_responder! { run_exactly_when neighbours_may_be_swapped histories_with_a_swap_end_alike }
+of_each_responder! { run_exactly_when a_lock_has_one_report neighbours_may_be_swapped histories_with_a_swap_end_alike }
 
 // ---- What a call names and what came of it --------------------------------------------------------------------------
 
@@ -146,15 +150,19 @@ struct Lock<'a> {
     session: u8,
 }
 
+/// The interface's lock that nothing since has ended, and what came since.
+fn standing_lock(history: &[Event], interface: u32) -> Option<(Lock<'_>, &[Event])> {
+    history.iter().enumerate().find_map(|(place, event)| {
+        let (lock, since) = (event.accepted_lock(interface)?, &history[place + 1..]);
+        let ended = since.iter().any(|event| event.accepted_stop(interface) || event.sends_to_error(interface, &lock));
+        (!ended).then_some((lock, since))
+    })
+}
+
 /// Demand 3's words over a history: some lock, a start after it, and nothing since that lock that ended it.
 fn runs_by(history: &[Event], interface: u32) -> bool {
-    history.iter().enumerate().any(|(place, event)| {
-        let since = &history[place + 1..];
-        event.accepted_lock(interface).is_some_and(|lock| {
-            since.iter().any(|event| event.well_formed_start(interface, lock.nonce))
-                && !since.iter().any(|event| event.accepted_stop(interface) || event.sends_to_error(interface, &lock))
-        })
-    })
+    standing_lock(history, interface)
+        .is_some_and(|(lock, since)| since.iter().any(|event| event.well_formed_start(interface, lock.nonce)))
 }
 
 // ---- What a run met ---------------------------------------------------------------------------------------------------
@@ -211,13 +219,14 @@ fn refusal_stays(event: &Event, before: &[u8], table: &[u8]) -> bool {
     event.outcome.number == 0 || (event.outcome.value == 0 && event.outcome.reply == lent && before == table)
 }
 
-// ---- RUN exactly when -----------------------------------------------------------------------------------------------
+/// What one history must show: after every call every interface is checked.
+type Check = fn(&Side, &mut Rng, &mut Seen) -> Result<(), String>;
 
-/// Random histories on one side; after every call every interface is checked. Gives the first disagreement as an error.
-fn check_run(side: &Side, seed: u64, histories: u64) -> Result<Seen, String> {
+/// Random histories on one side. Gives the first disagreement as an error.
+fn check_all(check: Check, side: &Side, seed: u64, histories: u64) -> Result<Seen, String> {
     let mut seen = Seen::default();
     for history in 0..histories {
-        check_history(side, &mut Rng::new(seed.wrapping_add(history)), &mut seen)
+        check(side, &mut Rng::new(seed.wrapping_add(history)), &mut seen)
             .map_err(|what| format!("{}: seed {seed:#018x}, history {history}: {what}", side.name))?;
     }
     Ok(seen)
@@ -242,6 +251,8 @@ fn next_call(rng: &mut Rng, table: &[u8], history: &[Event]) -> Call {
         _ => cases::call(rng, table, true),
     }
 }
+
+// ---- RUN exactly when -----------------------------------------------------------------------------------------------
 
 /// One history, of one to four interfaces, all in CONFIG_UNLOCKED. One table in eight is not accepted: its calls are refused.
 fn check_history(side: &Side, rng: &mut Rng, seen: &mut Seen) -> Result<(), String> {
@@ -280,7 +291,7 @@ fn check_history(side: &Side, rng: &mut Rng, seen: &mut Seen) -> Result<(), Stri
 }
 
 fn run_exactly_when(side: &Side) {
-    let seen = check_run(side, seed_of("RUN on histories"), HISTORIES).unwrap_or_else(|what| panic!("{what}"));
+    let seen = check_all(check_history, side, seed_of("RUN on histories"), HISTORIES).unwrap_or_else(|what| panic!("{what}"));
     seen.done(
         "RUN on histories",
         side,
@@ -300,9 +311,13 @@ fn run_exactly_when(side: &Side) {
 
 // ---- Wrong responders do not pass -----------------------------------------------------------------------------------
 
-fn fails(wrong: Side) {
+fn fails_at(check: Check, wrong: Side) {
     let seed = seed_of(wrong.name);
-    assert!(check_run(&wrong, seed, 300).is_err(), "{} passed", wrong.name);
+    assert!(check_all(check, &wrong, seed, 300).is_err(), "{} passed", wrong.name);
+}
+
+fn fails(wrong: Side) {
+    fails_at(check_history, wrong);
 }
 
 /// Every reply as it should be, on a table that is left alone.
@@ -421,6 +436,111 @@ fn writing_beside_a_refusal_fails() {
         },
         ..ORDINARY
     });
+}
+
+// ---- The report while a lock stands -----------------------------------------------------------------------------------
+
+/// What the interface's report requests get: from OFFSET 0, from its middle, and past every total. They leave the table.
+fn asked(side: &Side, rng: &mut Rng, interface: u32, table: &[u8]) -> Vec<Vec<u8>> {
+    [[0, 0xFFFF], [17, 40], [200, 1]]
+        .map(|[offset, length]: [u16; 2]| {
+            let id = [interface.to_le_bytes(), [0; 4], [0; 4]].concat();
+            let request = [&[0x10, 0x84, 0, 0][..], &id, &offset.to_le_bytes(), &length.to_le_bytes()].concat();
+            let (reply, nonce, streams) = (rng.bytes(256), rng.bytes(32), rng.bytes(32));
+            let call = Call::Respond { request, reply, nonce, ready: rng.once_in(2), streams, session: Session(rng.byte()) };
+            let mut after = table.to_vec();
+            let outcome = side.run(&call, &mut after);
+            assert!(outcome.number == 0 && after == table, "{}: {call}", side.name);
+            outcome.reply[..outcome.value as usize].to_vec()
+        })
+        .to_vec()
+}
+
+/// One history of one to four interfaces, all in CONFIG_UNLOCKED. After every call every interface is asked for its report: while a
+/// lock stands it is what it was at that lock, and otherwise each request gets 04h.
+fn check_reports(side: &Side, rng: &mut Rng, seen: &mut Seen) -> Result<(), String> {
+    let records = 1 + rng.index(4);
+    let mut table = cases::valid_table_in(rng, records, &[0]);
+    let interfaces: Vec<u32> = table.chunks_exact(RECORD).map(function_id).collect();
+    let mut history: Vec<Event> = Vec::new();
+    let mut at_the_lock: BTreeMap<u32, Vec<Vec<u8>>> = BTreeMap::new();
+    for _ in 0..CALLS {
+        let call = next_call(rng, &table, &history);
+        let outcome = side.run(&call, &mut table);
+        history.push(Event { call, outcome });
+        for &interface in &interfaces {
+            let got = asked(side, rng, interface, &table);
+            let right = if standing_lock(&history, interface).is_none() {
+                seen.count("reports of interfaces that are not locked", true);
+                at_the_lock.remove(&interface);
+                got.iter().all(|reply| reply[1] == 0x7F && reply[16..] == [4, 0, 0, 0, 0, 0, 0, 0])
+            } else {
+                let running = runs_by(&history, interface);
+                seen.count("reports in CONFIG_LOCKED", !running);
+                seen.count("reports in RUN", running);
+                *at_the_lock.entry(interface).or_insert_with(|| got.clone()) == got && got[0][1] == 0x04
+            };
+            if !right {
+                let last = &history[history.len() - 1];
+                return Err(format!("{interface:08X}h got {got:02X?}; last of {} calls: {}", history.len(), last.call));
+            }
+        }
+    }
+    Ok(())
+}
+
+fn a_lock_has_one_report(side: &Side) {
+    let seen =
+        check_all(check_reports, side, seed_of("reports on histories"), REPORT_HISTORIES).unwrap_or_else(|what| panic!("{what}"));
+    let least =
+        [("reports in CONFIG_LOCKED", 5_000), ("reports in RUN", 2_000), ("reports of interfaces that are not locked", 5_000)];
+    seen.done("reports on histories", side, &least);
+}
+
+/// The report in CONFIG_LOCKED alone, as before 1/12.
+#[test]
+fn refusing_the_report_in_run_fails() {
+    fails_at(
+        check_reports,
+        Side {
+            name: "refuses the report in RUN",
+            respond: |request, reply, table, nonce, ready, streams, session| {
+                let answer = ordinary::respond(request, reply, table, nonce, ready, streams, session);
+                let runs = table.chunks_exact(RECORD).any(|record| request.get(4..8) == Some(&record[..4]) && record[4] == 2);
+                if answer.number != 0 || reply[1] != 0x04 || !runs {
+                    return answer;
+                }
+                reply[1] = 0x7F;
+                reply[16..24].copy_from_slice(&[4, 0, 0, 0, 0, 0, 0, 0]);
+                tdisp::Answer { length: 24, ..answer }
+            },
+            ..ORDINARY
+        },
+    );
+}
+
+/// The state shown in the high byte of INTERFACE_INFO.
+#[test]
+fn showing_the_state_in_the_report_fails() {
+    fails_at(
+        check_reports,
+        Side {
+            name: "shows the state in the report",
+            respond: |request, reply, table, nonce, ready, streams, session| {
+                let answer = ordinary::respond(request, reply, table, nonce, ready, streams, session);
+                let named = table.chunks_exact(RECORD).find(|record| request.get(4..8) == Some(&record[..4]));
+                if let Some(record) = named
+                    && answer.number == 0
+                    && reply[1] == 0x04
+                    && answer.length > 21
+                {
+                    reply[21] = record[4];
+                }
+                answer
+            },
+            ..ORDINARY
+        },
+    );
 }
 
 // ---- The swap -------------------------------------------------------------------------------------------------------

@@ -276,12 +276,61 @@ fn legal_states() {
     both(|side| {
         let tables = [record_0100(), locked(record_0100(), 5), running(record_0100(), 5), in_error(record_0100())];
         for (state, table) in tables.iter().enumerate() {
-            for (kind, payload, legal) in [(0x83, 20, 0), (0x84, 4, 1), (0x86, 32, 1)] {
-                if state != legal {
+            for (kind, payload, legal) in [(0x83, 20, &[0][..]), (0x84, 4, &[1, 2]), (0x86, 32, &[1])] {
+                if !legal.contains(&state) {
                     expect_error(side, table, &request(kind, &vec![0xFF; payload]), 0x04);
                 }
             }
         }
+    });
+}
+
+/// 02, 1/12: "The bytes are the same in both states": every portion of a report of 55 bytes, before a start and after it.
+#[test]
+fn a_start_leaves_every_portion() {
+    both(|side| {
+        for flags in [0, 1, 4, 5] {
+            let before = reporting_record(flags);
+            let mut after = before.clone();
+            assert_eq!(serve(side, &request(0x86, &nonce()), &mut after), reply(0x06, &[]));
+            assert_eq!(after[4], 2);
+            for (offset, length) in (0..=55).flat_map(|offset| [0, 1, 20, 55, 255].map(|length| (offset, length))) {
+                let asked = request(0x84, &[offset, 0, length, 0]);
+                let shown = serve(side, &asked, &mut before.clone());
+                assert_eq!(shown[1], if offset < 55 { 0x04 } else { 0x7F });
+                expect(side, &after, &asked, &shown, &after);
+            }
+        }
+    });
+}
+
+/// The sequence of 000's bind: lock, start, then the report in portions; asked for before the start too. The host of 000 must
+/// set flag bit 4, and that lock is 01h: here the lock is without it.
+#[test]
+fn the_bind_of_000() {
+    both(|side| {
+        let ask = |offset: u8, length: u8| request(0x84, &[offset, 0, length, 0]);
+        let mut table = with_range(record_0100(), 16, 2, 0x0F, 9);
+        expect_error(side, &table, &ask(0, 16), 0x04);
+        expect_error(side, &table, &lock(0x15, 0), 0x01);
+        assert_eq!(serve(side, &lock(5, -4096), &mut table), reply(0x03, &nonce()));
+        // INTERFACE_INFO bit 0; N = 1; first page 15, two pages, attributes 0Fh, ID 9; L = 0.
+        let report =
+            [&[1, 0][..], &[0; 10], &[1, 0, 0, 0], &[15, 0, 0, 0, 0, 0, 0, 0, 2, 0, 0, 0, 0x0F, 0, 9, 0], &[0; 4]].concat();
+        let first = reply(0x04, &[&[16, 0, 20, 0], &report[..16]].concat());
+        let rest = reply(0x04, &[&[20, 0, 0, 0], &report[16..]].concat());
+        let portions = |table: &[u8]| {
+            expect(side, table, &ask(0, 16), &first, table);
+            expect(side, table, &ask(16, 255), &rest, table);
+            expect_error(side, table, &ask(36, 1), 0x01);
+        };
+        portions(&table);
+        assert_eq!(serve(side, &request(0x86, &nonce()), &mut table), reply(0x06, &[]));
+        portions(&table);
+        assert_eq!((side.register_write)(&mut table, FunctionId(0x0100), 4), Moved { number: 0, count: 1 });
+        expect_error(side, &table, &ask(0, 16), 0x04);
+        assert_eq!(serve(side, &request(0x87, &[]), &mut table), reply(0x07, &[]));
+        expect_error(side, &table, &ask(0, 16), 0x04);
     });
 }
 
