@@ -110,14 +110,15 @@ module _ (next : Machine) where
     pub not-named : (j : Identity) → Names j c → same i j ≡ false
     pub not-moved : isEvent c ≡ true → (k : ℕ) → find i (records t) ≡ At k → state (recordAt (next c t .table) k) ≡ state (recordAt t k)
 
-  -- Asked for twice, a portion gets the same reply, whatever comes between, if the interface is in state 1 or 2 before it and after each call:
+  -- On any table, so anywhere in any history: asked for twice, a portion gets the same reply, whatever comes between, if the interface is in
+  -- state 1 or 2 before it and after each call.
   abbrev pub SameWhileLocked : Type 0
   SameWhileLocked =
       (l m : Lent) (t : List ℕ) (k : ℕ) (between : List Call) → AsksTwice l m t k → LockStands (recordAt t k)
       → Along (Leaves (named l)) between (next (Request l) t .table)
       → SameReply (seen next (Request l) t) (seen next (Request m) (run next (Request l ∷ between) t))
 
-  -- so before a start and after it, with no call between that names the interface and no event that moves it
+  -- So before a start and after it, with no call between that names the interface and no event that moves it
   abbrev pub SameOverStart : Type 0
   SameOverStart =
       (l m : Lent) (t : List ℕ) (k : ℕ) (before : List Call) (start : Call) (after : List Call) → AsksTwice l m t k
