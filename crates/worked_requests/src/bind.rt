@@ -63,7 +63,10 @@ fn reported(name: &[u8], tells: u8, table: &mut [u8; 256]) {
 pub(crate) fn in_both_states() {
     let before = station();
     let mut table = before;
-    lock::accepted(b"a lock, without the flag bit 4 that 000's bind sets", &mut table);
+    lock::accepted(
+        b"a lock, without the flag bit 4 that 000's bind sets",
+        &mut table,
+    );
     reported(b"its state is 1", 1, &mut table);
     start(&mut table);
     reported(b"its state is 2", 2, &mut table);
