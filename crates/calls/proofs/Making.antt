@@ -12,10 +12,10 @@ use Rattle.rules.specs.Request.{lent}
 use Rattle.rules.specs.Table.{tableNumber}
 use Rattle.rules.specs.declared.Answer.{Answer}
 use Rattle.rules.specs.declared.Session.{Session}
+use Rattle.rules.proofs.Parts.{take-least}
 use Rattle.script.specs.declared.line.Call.{Call}
 use Rattle.script.specs.declared.settings.Settings.{Settings}
 use Rattle.script.proofs.Places.{first-part}
-use Rattle.compare.proofs.Cut.{take-least}
 use Rattle.calls.specs.Made.{lentBy, callOf}
 
 -- a front that is lent, cut down to the bytes that are there, is the front asked for

@@ -44,3 +44,4 @@ pub mod Stepped
 pub mod Messages
 pub mod Capabilities
 pub mod Worked
+pub mod Collections

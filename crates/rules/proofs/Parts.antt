@@ -1,12 +1,12 @@
 -- Laws of `part` and `over`. Assumes nothing.
-use mathlib.Core.Path.{_≡_, sym, _∙_}
+use mathlib.Core.Path.{_≡_, refl, sym, ap, _∙_}
 use mathlib.Core.List.{List, [], _∷_, _++_, append-assoc, append-nil}
-use Prim.Native.Nat.{ℕ, _+_, _-_, _≤_, _<_}
+use Prim.Native.Nat.{ℕ, zero, suc, _+_, _-_, _≤_, _<_, min}
 use native.Mathlib.Nat.{add-zero, zero-add, add-sub-cancel-left}
 use native.Mathlib.Numerals.{add-one}
 use native.Mathlib.Omega.{arith}
 use lib.ListN.{length, take, drop, set, length-append, length-take, length-drop, take-append-drop}
-use lib.Seq.{take-at, drop-at, drop-drop, set-split, length-take-le, take-length, drop-length, take-add, append-snoc}
+use lib.Seq.{take-at, drop-at, drop-drop, set-split, length-take-le, take-length, drop-length, take-add, take-nil, append-snoc}
 use Rattle.rules.specs.Bytes.{part, over}
 
 -- what a callee is lent of `&s[at..end]`, where end is at + n
@@ -31,6 +31,14 @@ part-join s at m n = sym (rw (take-add m n (drop at s), drop-drop))
 pub part-all : (s : List ℕ) → part s 0 (length s) ≡ s
 unfolding part
 part-all s = take-length s
+
+-- a length cut down to the bytes that are there takes the same bytes
+pub take-least : (s : List ℕ) (n k : ℕ) → k ≡ min n (length s) → take k s ≡ take n s
+take-least [] n k e = take-nil k ∙ sym (take-nil n)
+take-least (x ∷ s) zero zero e = refl
+take-least (x ∷ s) zero (suc k) e = absurd (omega arith)
+take-least (x ∷ s) (suc n) zero e = absurd (omega arith)
+take-least (x ∷ s) (suc n) (suc k) e = ap (λ (t : List ℕ). x ∷ t) (take-least s n k (omega arith))
 
 -- ---- writing
 

@@ -1,4 +1,4 @@
--- Document 01, a file a heading, in its order.
+-- Document 01, a file a heading, in its order; then what document 02 adds.
 pub mod Bytes
 pub mod Identity
 pub mod Range
@@ -10,3 +10,4 @@ pub mod Request
 pub mod Change
 pub mod Call
 pub mod Worked
+pub mod Collector

@@ -8,6 +8,7 @@ pub mod state;
 
 ghost use mathlib.Core.Path.{_≡_};
 ghost use Rattle.rules.specs.Call.{answerNumber, answerValue, firmwareNumber, firmwareValue};
+ghost use Rattle.rules.specs.Collector.{portionNumber};
 ghost use Rattle.rules.specs.Report.{reportNumber};
 ghost use Rattle.rules.specs.Table.{refusalNumber};
 
@@ -100,6 +101,32 @@ pub struct ReadReport {
 pub struct WrittenReport {
     pub verdict: ReportVerdict,
     pub length: usize,
+}
+
+// What a collector finds of a reply: it is taken, or refused by the first of these names that applies (02, 2/12).
+pub enum PortionVerdict {
+    Taken,
+    NotReport,
+    OtherInterface,
+    OtherLength,
+    TotalDifferent,
+    TotalOver,
+}
+
+impl PortionVerdict {
+    // The C interface's number: 0 where the reply is taken.
+    pub fn number(self) -> u32
+        ensures { λ r. ⌜ r ≡ portionNumber self ⌝ }
+    {
+        match self {
+            PortionVerdict::Taken => 0,
+            PortionVerdict::NotReport => 30,
+            PortionVerdict::OtherInterface => 31,
+            PortionVerdict::OtherLength => 32,
+            PortionVerdict::TotalDifferent => 33,
+            PortionVerdict::TotalOver => 34,
+        }
+    }
 }
 
 // What the checks of a request find: an error's code and data, or the place of the record to serve.

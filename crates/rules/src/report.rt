@@ -19,3 +19,10 @@ pub const LEAST_REPORT: usize = 20;
 pub const MOST_REPORT: usize = 200;
 
 pub const MOST_PORTION: usize = 128;
+
+// A reply with a portion: where the portion's length and the remainder's stand, and where the portion starts.
+pub const PORTION_LENGTH: usize = 16;
+
+pub const REMAINDER_LENGTH: usize = 18;
+
+pub const PORTION: usize = 20;

@@ -7,7 +7,7 @@ use native.Mathlib.Omega.{arith}
 use lib.ListN.{length, take, drop}
 use borrow.Author.Needs.{needs}
 use Rattle.rules.specs.Bytes.{sameBytes}
-use Rattle.compare.proofs.Cut.{take-least}
+use Rattle.rules.proofs.Parts.{take-least}
 use Rattle.compare.proofs.front.Statement.{statement}
 use Rattle.compare.proofs.front.Tie as tie
 
