@@ -6,4 +6,4 @@ use Rattle.collector.specs.declared.Collector.{Collector}
 
 -- the mark of a reply taken is any number but 0
 abbrev pub kept : Collector → Collection
-kept c = record { id = c .id; bytes = c .bytes; held = c .held; begun = not (eqb (c .begun) 0); total = c .total }
+kept c = record { id = c .«function_id»; bytes = c .bytes; held = c .held; begun = not (eqb (c .begun) 0); total = c .total }

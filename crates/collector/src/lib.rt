@@ -23,7 +23,7 @@ ghost use Rattle.collector.specs.Kept.{kept};
 // while no reply was taken, and then the total says nothing. Every value of it is legal. It crosses to C as it stands.
 #[repr(C)]
 pub struct Collector {
-    pub id: u32,
+    pub function_id: u32,
     pub held: u32,
     pub total: u32,
     pub begun: u32,
@@ -45,12 +45,12 @@ pub struct Whole {
 
 impl Collector {
     // One that has nothing yet, for the interface with this FUNCTION_ID.
-    pub fn new(id: u32) -> Self
-        ensures { λ r. ⌜ kept r ≡ fresh id ⌝ }
+    pub fn new(function_id: u32) -> Self
+        ensures { λ r. ⌜ kept r ≡ fresh «function_id» ⌝ }
     {
         let bytes = [0u8; MOST_REPORT];
         Collector {
-            id: id,
+            function_id: function_id,
             held: 0,
             total: 0,
             begun: 0,
@@ -102,7 +102,7 @@ impl Collector {
         if !is_report_reply(reply) {
             return PortionVerdict::NotReport;
         }
-        let who = identity_of(self.id);
+        let who = identity_of(self.function_id);
         if !same_identity(who, identity_at(reply, INTERFACE_ID)) {
             return PortionVerdict::OtherInterface;
         }
