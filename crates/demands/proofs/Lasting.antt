@@ -14,17 +14,20 @@ use Rattle.rules.specs.Record.{Rec, state}
 use Rattle.rules.specs.Report.{reportOf}
 use Rattle.rules.specs.Request.{Lent}
 use Rattle.rules.specs.Table.{records, recordAt, find}
-use Rattle.rules.specs.declared.Found.the-variants.{At}
+use Rattle.rules.specs.declared.Found.{Found}
+use Rattle.rules.specs.declared.Found.the-variants.{At, Nothing}
 use Rattle.rules.specs.declared.Identity.{Identity}
 use Rattle.rules.specs.declared.Rule.{Rule}
 use Rattle.rules.proofs.Bools.{clash, and-left}
 use Rattle.rules.proofs.Shown.{report-running}
+use Rattle.demands.specs.Collected.{LockLasts}
 use Rattle.demands.specs.Exactly.{LockStands, in-locked, in-run}
-use Rattle.demands.specs.Histories.{Terms, Asks, Ends, ruleEnds, sendsToError}
-use Rattle.demands.specs.Machine.{seen, run}
+use Rattle.demands.specs.Histories.{Terms, Asks, AcceptedLock, Ends, Lasts, ruleEnds, sendsToError}
+use Rattle.demands.specs.Machine.{seen, run, trace, none-left, _and_}
 use Rattle.demands.specs.ReportStays.{isEvent, Along, no-more, _then_, Leaves, PassesBy}
 use Rattle.demands.specs.Swaps.{Names, asks, writes}
 use Rattle.demands.proofs.Lookups.{place-stays, one-place}
+use Rattle.demands.proofs.Tells.{locked-by, no-lock}
 use Rattle.demands.proofs.Turns.{terms, live-in, wide, Turn, turn}
 
 -- ---- the states in which a lock stands
@@ -110,6 +113,16 @@ unfolding run
 along-append P [] g t no-more b = b
 along-append P (c ∷ h) g t (x then a) b = x then along-append P h g (step c t .table) a b
 
+-- so over a part of them
+pub along-front : (P : Call → List ℕ → Type 0) (h g : List Call) (t : List ℕ) → Along step P (h ++ g) t → Along step P h t
+along-front P [] g t a = no-more
+along-front P (c ∷ h) g t (x then a) = x then along-front P h g (step c t .table) a
+
+pub along-back : (P : Call → List ℕ → Type 0) (h g : List Call) (t : List ℕ) → Along step P (h ++ g) t → Along step P g (run step h t)
+unfolding run
+along-back P [] g t a = a
+along-back P (c ∷ h) g t (x then a) = along-back P h g (step c t .table) a
+
 module _ (i : Identity) where
   -- a lock that stands from first to last: the report is the same,
   pub lasting-same : (h : List Call) (t : List ℕ) (k : ℕ) → find i (records t) ≡ At k → LockStands (recordAt t k) → Along step (Leaves step i) h t
@@ -135,3 +148,39 @@ module _ (i : Identity) where
       let found′ = place-stays c i t ∙ found in
       let s′ = passes-live i t k found c x ∙ s in
       record { place = k; found = found′; stands = live-stands _ s′ } then passed-lasts h (step c t .table) k found′ s′ a
+
+  -- ---- told from the history: nothing ends it
+
+  -- a call that does not end it leaves it standing, on the terms on which it was made
+  not-ended-stands : (t : List ℕ) (k : ℕ) (found : find i (records t) ≡ At k) (c : Call) (on : Terms) → live (recordAt t k) ≡ true → terms (recordAt t k) ≡ on
+      → (Ends i on (seen step c t) → ⊥) → (live (recordAt (step c t .table) k) ≡ true) × (terms (recordAt (step c t .table) k) ≡ on)
+  not-ended-stands t k found c on l e quiet = by (turn i t k found c)
+    where
+      by : Turn i (seen step c t) (recordAt t k) (recordAt (step c t .table) k)
+          → (live (recordAt (step c t .table) k) ≡ true) × (terms (recordAt (step c t .table) k) ≡ on)
+      by (Turn.stays q) = (ap live q ∙ l, ap terms q ∙ e)
+      by (Turn.locks n o z a x) = clash (sym l ∙ live-in (recordAt t k) 0 z)
+      by (Turn.starts z a q x) = (live-in _ 2 (x .state-is), x .terms-are ∙ e)
+      by (Turn.ends f d) = absurd (quiet (rw e at (f l)))
+
+  lasts-stands : (h : List Call) (t : List ℕ) (k : ℕ) (on : Terms) → find i (records t) ≡ At k → live (recordAt t k) ≡ true → terms (recordAt t k) ≡ on
+      → Lasts i on (trace step h t) → Along step (Leaves step i) h t
+  unfolding trace
+  lasts-stands [] t k on found l e none-left = no-more
+  lasts-stands (c ∷ h) t k on found l e (quiet and rest) =
+      let after = not-ended-stands t k found c on l e quiet in
+      let found′ = place-stays c i t ∙ found in
+      record { place = k; found = found′; stands = live-stands _ (after .0) } then lasts-stands h (step c t .table) k on found′ (after .0) (after .1) rest
+
+  -- from the lock on
+  since-lock : (c : Call) (n : List ℕ) (on : Terms) (h : List Call) (t : List ℕ) (f : Found) → find i (records t) ≡ f → AcceptedLock i n on (seen step c t)
+      → Lasts i on (trace step h (step c t .table)) → Along step (Leaves step i) (c ∷ h) t
+  since-lock c n on h t Nothing found a lasts = absurd (no-lock i t c n on found a)
+  since-lock c n on h t (At k) found a lasts =
+      let locked = locked-by i t k found c n on a in
+      let found′ = place-stays c i t ∙ found in
+      let l = live-in (recordAt (step c t .table) k) 1 (locked .state-is) in
+      record { place = k; found = found′; stands = live-stands _ l } then lasts-stands h (step c t .table) k on found′ l (locked .terms-are) lasts
+
+pub lock-lasts : LockLasts step
+lock-lasts i c n on h t a lasts = since-lock i c n on h t (find i (records t)) refl a lasts

@@ -12,5 +12,9 @@ pub mod Named
 pub mod Swaps
 pub mod Lasting
 pub mod ReportStays
+pub mod Collecting
+pub mod Holding
+pub mod Asked
+pub mod Collected
 pub mod Wrong
 pub mod WrongInRun

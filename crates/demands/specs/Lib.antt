@@ -6,5 +6,7 @@ pub mod Reports
 pub mod Histories
 pub mod Swaps
 pub mod ReportStays
+pub mod Collecting
+pub mod Collected
 pub mod Wrong
 pub mod WrongInRun

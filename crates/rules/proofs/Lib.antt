@@ -45,3 +45,4 @@ pub mod Messages
 pub mod Capabilities
 pub mod Worked
 pub mod Collections
+pub mod ReportReply

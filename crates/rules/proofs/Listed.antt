@@ -78,7 +78,7 @@ module _ (f : ℕ → Range) where
 
 -- ---- information copied over zeros
 
-drop-blank : (l n : ℕ) → l ≤ n → drop l (blank n) ≡ blank (n - l)
+pub drop-blank : (l n : ℕ) → l ≤ n → drop l (blank n) ≡ blank (n - l)
 drop-blank zero n h = rw sub-zero
 drop-blank (suc l) zero h = absurd (not-suc-le-zero h)
 drop-blank (suc l) (suc n) h = rw (suc-sub-suc, drop-blank l n (le-of-suc-le-suc h))

@@ -3,18 +3,19 @@ use mathlib.Core.Path.{_≡_, refl, sym, ap, _∙_}
 use mathlib.Core.Bool.{Bool, true, false, _&&_}
 use mathlib.Core.List.{List}
 use mathlib.Core.Logic.{_⊎_, inl, inr}
-use Prim.Native.Nat.{ℕ, _+_, _*_, _/_, _^_, _≤_, _<_}
+use Prim.Native.Nat.{ℕ, _+_, _-_, _*_, _/_, _^_, _≤_, _<_}
 use native.Mathlib.Omega.{arith}
 use lib.Dec.{eqb, leb, ltb}
 use lib.IntN.{ℤ, pos, negsuc, _+ℤ_}
 use lib.Signed.{quotZ}
 use lib.ListN.{length, getD}
+use lib.Seq.{take-at}
 use borrow.Author.Tests.{leb-true, le-leb, ltb-true, ltb-false, le-ltb, eqb-true, eq-eqb}
-use Rattle.rules.specs.Bytes.{if_then_else_, Bytes, bits, bit, bitClear}
+use Rattle.rules.specs.Bytes.{if_then_else_, Bytes, bits, bit, bitClear, blank, part}
 use Rattle.rules.specs.Lock.{contains, signed, pageBytes, wholePages, fitted, shifted, stays, allStay}
 use Rattle.rules.specs.Range.{mostRanges, rangeBytes, eightRanges, rangeIn, pagesEnd, zeroRange, pagesOk, attributesOk}
 use Rattle.rules.specs.Record.{Rec, state, flags, lockMsix, rangeCount, interfaceInfo, msixControl, lnrControl, tphControl, offset, mostInformation, rangesPlace, rangeOf, informationLength, flagsOk, offsetOk, lockOk, recordOk}
-use Rattle.rules.specs.Report.{mostReport, informationFrom, fieldRange, reportBytes, contentNumber, readNumber, writeNumber, pageOf, shownAttributes, shownRange, reportedRange, reportOf, TypedRange, Typed}
+use Rattle.rules.specs.Report.{mostReport, informationFrom, fieldRange, reportBytes, contentNumber, readNumber, handedBack, writeNumber, normal, pageOf, shownAttributes, shownRange, reportedRange, reportOf, TypedRange, Typed}
 use Rattle.rules.specs.Table.{recordBytes}
 use Rattle.rules.specs.declared.Range.{Range}
 use Rattle.rules.specs.declared.ReportFields.{ReportFields}
@@ -26,6 +27,7 @@ use Rattle.rules.proofs.Every.{every-at, every-true}
 use Rattle.rules.proofs.Kept.{keeps, count-most, information-most}
 use Rattle.rules.proofs.Listed.{listed-same, eight-at, eight-past, length-eight, bytes-information, length-information}
 use Rattle.rules.proofs.Numbers.{num-lt}
+use Rattle.rules.proofs.Parts.{length-part}
 use Rattle.rules.proofs.Ranges.{range-read, pages-ok, attributes-ok, ids-ok}
 use Rattle.rules.proofs.ReadBack.{read-written}
 use Rattle.rules.proofs.Sizes.{content-same}
@@ -169,7 +171,21 @@ module _ (r : Rec) (long : length r ≡ recordBytes) (b : Bytes r) (ok : recordO
   pub record-accepted : readNumber (reportBytes (reportOf r)) ≡ 0
   record-accepted = read-written (reportOf r) mostReport report-typed write-kept .0
 
-  -- and its pages are the record's, moved by the offset
+  -- and hands back its fields: places past N and L are zero in them as they are
+  record-normal : normal (reportOf r) ≡ reportOf r
+  unfolding normal reportOf eightRanges informationFrom
+  record-normal =
+      let l = informationLength r in
+      let fits : 204 + l ≤ length r = omega (arith, information-most r ok) in
+      rw (listed-same (rangeCount r) _ _ field-shown, take-at (part r 204 l) (blank (mostInformation - l)) l (length-part r 204 l fits))
+
+  pub record-fields : handedBack (reportBytes (reportOf r)) ≡ reportOf r
+  unfolding handedBack
+  record-fields =
+      rw (eq-eqb (readNumber (reportBytes (reportOf r))) 0 record-accepted)
+      (read-written (reportOf r) mostReport report-typed write-kept .1 ∙ record-normal)
+
+  -- its pages are the record's, moved by the offset
   pub record-pages : (k : ℕ) → k < rangeCount r → pos (fieldRange (reportOf r) k .first) ≡ pos (rangeOf r k .first) +ℤ quotZ (signed (offset r)) (pos pageBytes)
   record-pages k h =
       ap (λ (x : Range). pos (x .first)) (field-shown k h) ∙ shifted-stays (signed (offset r)) (rangeOf r k) (stays-at k h) .0
