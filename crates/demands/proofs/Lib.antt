@@ -18,3 +18,4 @@ pub mod Asked
 pub mod Collected
 pub mod Wrong
 pub mod WrongInRun
+pub mod WrongCollecting

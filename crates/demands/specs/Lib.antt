@@ -10,3 +10,4 @@ pub mod Collecting
 pub mod Collected
 pub mod Wrong
 pub mod WrongInRun
+pub mod WrongCollecting
