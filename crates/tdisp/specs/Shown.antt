@@ -3,8 +3,6 @@ use mathlib.Core.Path.{_≡_}
 use mathlib.Core.List.{List}
 use Prim.Native.Nat.{ℕ}
 use Rattle.rules.specs.Call.{Outcome}
-use Rattle.rules.specs.declared.ReportFields.{ReportFields}
-use Rattle.tdisp.specs.declared.reports.TdispReport.{TdispReport}
 
 -- the outcome of a call: its number; its length, count or answer; the reply buffer and the table afterwards
 pub record Shows (o : Outcome) (number value : ℕ) (reply table : List ℕ) : Type 0 where
@@ -12,16 +10,3 @@ pub record Shows (o : Outcome) (number value : ℕ) (reply table : List ℕ) : T
   pub value-is : value ≡ o .value
   pub reply-is : reply ≡ o .reply
   pub table-is : table ≡ o .table
-
--- the fields of a report as C has them, its number left out
-abbrev pub fieldsOf : TdispReport → ReportFields
-fieldsOf r = record {
-  info = r .info;
-  msix = r .msix;
-  lnr = r .lnr;
-  tph = r .tph;
-  n = r .n;
-  ranges = r .ranges;
-  l = r .l;
-  information = r .information;
-}
