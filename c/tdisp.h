@@ -54,6 +54,10 @@ struct tdisp_moved tdisp_multicast(uint8_t *table, size_t table_len);
  * Writes nothing. */
 struct tdisp_yes tdisp_firmware(const uint8_t *table, size_t table_len);
 
+/* A report and its reader: tdisp_host.h has them too, and both headers may be included. */
+#ifndef TDISP_REPORT
+#define TDISP_REPORT
+
 struct tdisp_range { uint64_t first; uint32_t pages; uint16_t attributes; uint16_t id; };
 struct tdisp_report { uint32_t number; uint16_t info, msix, lnr; uint32_t tph, n; struct tdisp_range ranges[8];
     uint32_t l; uint8_t information[52]; };
@@ -61,6 +65,8 @@ struct tdisp_report { uint32_t number; uint16_t info, msix, lnr; uint32_t tph, n
 /* Reads a report. `number`: 0; 20 too short for what it says; 21 N over 8 or L over 52; 22 longer; 23 a reserved bit set; 24 pages 0, or
  * first + pages above 2^52; 25 IDs 0 to 7 that fall. Fields past N and L are zero; beside a refusal all are. Writes nothing. */
 struct tdisp_report tdisp_read_report(const uint8_t *report, size_t report_len);
+
+#endif
 
 /* Writes a report at the front of `output` and returns its length; the rest of the output stays. `number`: 0; 26 output under 200 bytes;
  * 21, 23, 24, 25 as above. A refusal writes nothing. `fields.number`, ranges past N and information past L are not read. */

@@ -1,31 +1,13 @@
 /* The C interface, called through the header: the worked lines, every request, every number of every function, every event. What must come is
  * built here from the paper's text. After every call the whole table, the whole reply buffer, bytes past what was lent, and the nonce bytes and
  * stream map are compared with it, whether the call was served or refused. And whether the header's structs are those that the archive uses. */
-#include <stdio.h>
-#include <string.h>
 #include <tdisp.h>
+#include "cases.h"
 
 /* the layout that others link to */
 _Static_assert(sizeof(struct tdisp_answer) == 8 && offsetof(struct tdisp_answer, length) == 4, "tdisp_answer");
 _Static_assert(sizeof(struct tdisp_moved) == 8 && offsetof(struct tdisp_moved, count) == 4, "tdisp_moved");
 _Static_assert(sizeof(struct tdisp_yes) == 8 && offsetof(struct tdisp_yes, yes) == 4, "tdisp_yes");
-_Static_assert(sizeof(struct tdisp_range) == 16 && offsetof(struct tdisp_range, pages) == 8
-    && offsetof(struct tdisp_range, attributes) == 12 && offsetof(struct tdisp_range, id) == 14, "tdisp_range");
-_Static_assert(sizeof(struct tdisp_report) == 208 && offsetof(struct tdisp_report, info) == 4 && offsetof(struct tdisp_report, msix) == 6
-    && offsetof(struct tdisp_report, lnr) == 8 && offsetof(struct tdisp_report, tph) == 12 && offsetof(struct tdisp_report, n) == 16
-    && offsetof(struct tdisp_report, ranges) == 24 && offsetof(struct tdisp_report, l) == 152
-    && offsetof(struct tdisp_report, information) == 156, "tdisp_report");
-
-static int passed, failed;
-
-static void check(const char *name, int right) {
-    if (right)
-        passed++;
-    else {
-        failed++;
-        printf("WRONG: %s\n", name);
-    }
-}
 
 /* What is lent, and what must be there after the next call. Of the table the first `lent` bytes are lent, of the reply buffer 256. */
 static uint8_t table[66 * 256], wanted_table[66 * 256], reply[300], wanted_reply[300];
@@ -39,30 +21,12 @@ static int as_wanted(void) {
 
 /* ---- Records by the paper's table ---- */
 
-static void put(uint8_t *at, uint64_t number, int bytes) {
-    for (int i = 0; i < bytes; i++)
-        at[i] = (uint8_t)(number >> (8 * i));
-}
-
 /* The record at a place: 0100h is a requester's number, 010000h a segment's lowest bit, 1000000h says that the segment is valid. */
 static uint8_t *record(int place, uint32_t function_id) {
     uint8_t *r = wanted_table + 256 * place;
     memset(r, 0, 256);
     put(r, function_id, 4);
     return r;
-}
-
-/* One more range, and device information of 52 bytes that all differ. */
-static void range(uint8_t *r, uint64_t first, uint32_t pages, uint16_t attributes, uint16_t id) {
-    uint8_t *at = r + 72 + 16 * r[10]++;
-    put(at, first, 8), put(at + 8, pages, 4), put(at + 12, attributes, 2), put(at + 14, id, 2);
-}
-
-static void informed(uint8_t *r) {
-    put(r + 12, 0x1e, 2), put(r + 14, 0x8123, 2), put(r + 16, 0x9456, 2), put(r + 20, 0xa789abcd, 4);
-    r[200] = 52;
-    for (int i = 0; i < 52; i++)
-        r[204 + i] = (uint8_t)(0x80 + i);
 }
 
 static void locked(uint8_t *r, uint16_t flags, uint8_t stream, uint8_t session, int64_t offset) {
@@ -93,16 +57,6 @@ static void lend(int records) {
     memcpy(reply, wanted_reply, sizeof reply);
     memcpy(nonce, wanted_nonce, sizeof nonce);
     memcpy(streams, wanted_streams, sizeof streams);
-}
-
-/* A request or a reply: header, FUNCTION_ID, eight zeros, payload. */
-struct message { size_t length; uint8_t bytes[256]; };
-
-static struct message message(uint8_t type, uint32_t function_id, const void *payload, size_t length) {
-    struct message m = {16 + length, {0x10, type}};
-    put(m.bytes + 4, function_id, 4);
-    memcpy(m.bytes + 16, payload, length);
-    return m;
 }
 
 static struct message lock(uint32_t function_id, uint16_t flags, uint8_t stream, int64_t offset) {
@@ -254,9 +208,6 @@ static void overlapping(void) {
 
 /* ---- Refusals ---- */
 
-/* A pointer that must not be followed. */
-static uint8_t *const nowhere = (uint8_t *)16;
-
 static void refused_requests(void) {
     const struct message m = lock(0x100, 5, 3, 0);
     record(0, 0x100);
@@ -368,15 +319,6 @@ static void writes(void) {
 }
 
 /* ---- Reports ---- */
-
-static int same_fields(const struct tdisp_report *a, const struct tdisp_report *b) {
-    for (int k = 0; k < 8; k++)
-        if (a->ranges[k].first != b->ranges[k].first || a->ranges[k].pages != b->ranges[k].pages
-            || a->ranges[k].attributes != b->ranges[k].attributes || a->ranges[k].id != b->ranges[k].id)
-            return 0;
-    return a->number == b->number && a->info == b->info && a->msix == b->msix && a->lnr == b->lnr && a->tph == b->tph && a->n == b->n
-        && a->l == b->l && !memcmp(a->information, b->information, 52);
-}
 
 /* Fields that are told from each other, n ranges and l bytes; and their report by the paper, in `bytes`. */
 static struct tdisp_report fields(int n, int l, uint8_t bytes[200]) {
