@@ -1,5 +1,5 @@
-//! Links the proved archive, ../target/tdisp/libtdisp.a, which 'make lib' writes. TDISP_LIB_DIR names another folder that holds a
-//! libtdisp.a.
+//! Links the proved archives, libtdisp.a and libtdisp_host.a in ../target/tdisp, which 'make lib' writes. TDISP_LIB_DIR names
+//! another folder that holds them.
 
 use std::env;
 use std::path::{Path, PathBuf};
@@ -10,13 +10,15 @@ fn main() {
         Some(dir) => PathBuf::from(dir),
         None => Path::new(&crate_dir).join("../target/tdisp"),
     };
-    let archive = dir.join("libtdisp.a");
     println!("cargo::rerun-if-env-changed=TDISP_LIB_DIR");
-    println!("cargo::rerun-if-changed={}", archive.display());
-    if !archive.is_file() {
-        println!("cargo::error={} is missing: 'make lib' in the repository's root builds it", archive.display());
-        return;
-    }
     println!("cargo::rustc-link-search=native={}", dir.display());
-    println!("cargo::rustc-link-lib=static=tdisp");
+    for name in ["tdisp", "tdisp_host"] {
+        let archive = dir.join(format!("lib{name}.a"));
+        println!("cargo::rerun-if-changed={}", archive.display());
+        if !archive.is_file() {
+            println!("cargo::error={} is missing: 'make lib' in the repository's root builds it", archive.display());
+            return;
+        }
+        println!("cargo::rustc-link-lib=static={name}");
+    }
 }

@@ -1,4 +1,5 @@
-//! The TDISP responder of a card, for Rust: a safe wrapper over the proved archive `libtdisp.a`.
+//! The TDISP responder of a card, for Rust: a safe wrapper over the proved archive `libtdisp.a`; and for hosts, in [`host`], over
+//! `libtdisp_host.a`.
 //!
 //! Slices go in, plain results come out, and there is nothing for the caller to check: any bytes of any length are answered.
 //! A table is records of 256 bytes, 1 to 64 of them, one for each interface; it is lent for each call and holds all that the
@@ -17,7 +18,7 @@
 //! 6. the stream map or the nonce bytes are not 32 long
 //! 7. a register write's interface is no record's
 //!
-//! [`read_report`] and [`write_report`] have numbers of their own.
+//! [`read_report`] and [`write_report`] have numbers of their own, and so has the collector of reports in [`host`].
 //!
 //! # A lock, a start, and a stream that goes down
 //!
@@ -56,6 +57,8 @@
 
 #![deny(unsafe_code)]
 #![warn(missing_docs)]
+
+pub mod host;
 
 use std::mem::{align_of, offset_of, size_of};
 
@@ -170,9 +173,10 @@ const _: () = {
 
 pub use archive::{firmware, multicast, read_report, register_write, respond, session_end, stream_down, write_report};
 
-/// The archive's functions: the only unsafe code of the crate. What the C header asks of its callers holds of slices: every
-/// pointer is valid for the slice's length and not null, an empty slice's too; a `&mut` slice overlaps no other; nobody else
-/// writes a slice while it is lent. The archive keeps no pointer after it returns, and each of its functions returns.
+/// The archive's functions: the only unsafe code of the crate, beside the like module of [`host`]. What the C header asks of its
+/// callers holds of slices: every pointer is valid for the slice's length and not null, an empty slice's too; a `&mut` slice
+/// overlaps no other; nobody else writes a slice while it is lent. The archive keeps no pointer after it returns, and each of its
+/// functions returns.
 #[allow(unsafe_code)]
 mod archive {
     use super::{Answer, FunctionId, Moved, Report, Session, Stream, Yes};
