@@ -14,9 +14,10 @@ use wire::copy::least;
 use wire::identity::identity_at;
 use wire::identity::identity_of;
 ghost use mathlib.Core.Path.{_≡_};
+ghost use mathlib.Core.Bool.{false};
 ghost use Prim.Native.Nat.{_≤_};
 ghost use lib.ListN.{length, take};
-ghost use Rattle.rules.specs.Collector.{fresh, nextOffset, heldBytes, finished, leastReportReply, totalSaid, portionVerdict, collected};
+ghost use Rattle.rules.specs.Collector.{fresh, nextOffset, heldBytes, finished, leastReportReply, totalSaid, portionVerdict, isTaken, collected};
 ghost use Rattle.collector.specs.Kept.{kept};
 
 // The bytes of a report so far and how many; of the interface with this FUNCTION_ID; and the total that the first reply taken said. `begun` is 0
@@ -119,9 +120,10 @@ impl Collector {
         PortionVerdict::Taken
     }
 
-    // A reply to what was asked last: judged and, if it is taken, put behind the bytes held. One that is taken fits there, whatever `held` says.
+    // A reply to what was asked last: judged and, if it is taken, put behind the bytes held. One that is taken fits there, whatever `held` says;
+    // a refused one leaves every byte of the collector.
     pub fn take(mut self, reply: &[u8]) -> TakenReply
-        ensures { λ r. ⌜ (r .verdict ≡ portionVerdict (kept self) (now (reply .entry))) × (kept (r .collector) ≡ collected (kept self) (now (reply .entry))) ⌝ }
+        ensures { λ r. ⌜ (r .verdict ≡ portionVerdict (kept self) (now (reply .entry))) × (kept (r .collector) ≡ collected (kept self) (now (reply .entry))) × (isTaken (portionVerdict (kept self) (now (reply .entry))) ≡ false → r .collector ≡ self) ⌝ }
     {
         let verdict = self.judge(reply);
         if verdict.number() != 0 {

@@ -2,9 +2,10 @@
 use collector::Collector;
 use collector::Whole;
 ghost use mathlib.Core.Path.{_≡_};
+ghost use mathlib.Core.Bool.{false};
 ghost use lib.ListN.{length, take};
 ghost use Rattle.rules.specs.Bytes.{if_then_else_};
-ghost use Rattle.rules.specs.Collector.{fresh, nextOffset, heldBytes, finished, portionNumber, portionVerdict, collected};
+ghost use Rattle.rules.specs.Collector.{fresh, nextOffset, heldBytes, finished, portionNumber, portionVerdict, isTaken, collected};
 ghost use Rattle.collector.specs.Kept.{kept};
 
 // A reply's number, and the collector afterwards.
@@ -30,10 +31,10 @@ pub extern "C" fn tdisp_collector_next(c: Collector) -> u32
     c.next_offset()
 }
 
-// Takes a reply, or refuses it.
+// Takes a reply, or refuses it and hands back what it was given.
 #[no_mangle]
 pub extern "C" fn tdisp_collector_take(c: Collector, reply: &[u8]) -> TdispTaken
-    ensures { λ r. ⌜ (r .number ≡ portionNumber (portionVerdict (kept c) (now (reply .entry)))) × (kept (r .collector) ≡ collected (kept c) (now (reply .entry))) ⌝ }
+    ensures { λ r. ⌜ (r .number ≡ portionNumber (portionVerdict (kept c) (now (reply .entry)))) × (kept (r .collector) ≡ collected (kept c) (now (reply .entry))) × (isTaken (portionVerdict (kept c) (now (reply .entry))) ≡ false → r .collector ≡ c) ⌝ }
 {
     let taken = c.take(reply);
     let verdict = taken.verdict;

@@ -1,15 +1,25 @@
 -- `take` meets its contract: a reply that is refused leaves the collector, and one that is taken fits behind the bytes held. Assumes nothing.
-use Prim.Native.Nat.{_+_, _≤_}
+use mathlib.Core.Path.{_≡_, refl, sym, ap, _∙_}
+use mathlib.Core.Bool.{false}
+use Prim.Native.Nat.{ℕ, _+_, _≤_}
 use lib.ListN.{length}
 use borrow.Author.Needs.{needs}
-use Rattle.rules.specs.Collector.{leastReportReply}
+use borrow.Author.Tests.{eq-eqb}
+use lib.Dec.{eqb}
+use Rattle.rules.specs.Collector.{leastReportReply, portionNumber, isTaken}
 use Rattle.rules.specs.Report.{mostReport}
+use Rattle.rules.specs.declared.PortionVerdict.{PortionVerdict}
+use Rattle.rules.proofs.Bools.{clash}
 use Rattle.rules.proofs.Collections.{left, taken-long, taken-fits, held-most, total-most, grows}
 use Rattle.collector.proofs.Collector.take.Statement.{statement}
 use Rattle.collector.proofs.Collector.take.Tie as tie
 
+-- a verdict whose number is 0 is no refusal
+no-refusal : (v w : PortionVerdict) (z : ℕ) → v ≡ w → z ≡ portionNumber v → z ≡ 0 → isTaken w ≡ false → ⊥
+no-refusal v w z v-is z-is none e = clash (sym (eq-eqb z 0 none) ∙ ap (λ (n : ℕ). eqb n 0) z-is ∙ ap isTaken v-is ∙ e)
+
 returns : tie.Need-returns
-returns c = (search needs, search left)
+returns c = (search needs, search left, λ _. refl)
 
 total-said-requires : tie.Need-total-said-requires
 total-said-requires c κs = search taken-long
@@ -40,7 +50,7 @@ cast-self-2 c =
     search needs
 
 returns-2 : tie.Need-returns-2
-returns-2 c = (search needs, search grows)
+returns-2 c = (search needs, search grows, λ e. let z : ⊥ = search no-refusal in absurd z)
 
 pub take-spec : {M : Type 1} → statement M
 take-spec =

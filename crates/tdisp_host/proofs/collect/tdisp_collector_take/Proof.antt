@@ -2,16 +2,16 @@
 use mathlib.Core.Path.{_≡_}
 use Prim.Native.Nat.{ℕ}
 use borrow.Author.Needs.{needs}
-use Rattle.rules.specs.Collector.{Collection, portionNumber}
+use Rattle.rules.specs.Collector.{portionNumber}
 use Rattle.rules.specs.declared.PortionVerdict.{PortionVerdict}
 use Rattle.tdisp_host.proofs.collect.tdisp_collector_take.Statement.{statement}
 use Rattle.tdisp_host.proofs.collect.tdisp_collector_take.Tie as tie
 
-numbered : (n : ℕ) (v w : PortionVerdict) (c d : Collection) → n ≡ portionNumber v → (v ≡ w) × (c ≡ d) → (n ≡ portionNumber w) × (c ≡ d)
-numbered n v w c d e (a, b) = (rw (← a) e, b)
+numbered : (n : ℕ) (v w : PortionVerdict) → n ≡ portionNumber v → v ≡ w → n ≡ portionNumber w
+numbered n v w e f = rw (← f) e
 
 returns : tie.Need-returns
-returns c = numbered _ _ _ _ _ (c .number .ensures) (c .before .before .take .ensures)
+returns c = let t = c .before .before .take .ensures in (numbered _ _ _ (c .number .ensures) (t .0), t .1, t .2)
 
 pub tdisp-collector-take-spec : {M : Type 1} → statement M
 tdisp-collector-take-spec =
