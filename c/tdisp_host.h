@@ -40,8 +40,8 @@ struct tdisp_whole { uint32_t length; uint8_t bytes[200]; };
 /* A collector that has nothing yet, for the interface with this FUNCTION_ID. */
 struct tdisp_collector tdisp_collector_new(uint32_t function_id);
 
-/* The OFFSET to ask for next. LENGTH is the host's to choose; with 65,535 our responder sends any report in two replies. Asked like this, while one
- * lock stands from the first reply to the last, the finished collection is the whole report. */
+/* The OFFSET to ask for next. LENGTH is the host's to choose; with 65,535 our responder sends any report in at most two replies. Asked like
+ * this, while one lock stands from the first reply to the last, the finished collection is the whole report. */
 uint32_t tdisp_collector_next(struct tdisp_collector c);
 
 /* Takes a reply. `number`: 0 taken; else the first that applies of: 30 not a report reply (under 20 bytes, other version or type); 31 other

@@ -89,7 +89,8 @@ impl Collector {
         archive::tdisp_collector_new(function_id.0)
     }
 
-    /// The OFFSET to ask for next. LENGTH is the host's to choose; with 65,535 our responder sends any report in two replies.
+    /// The OFFSET to ask for next. LENGTH is the host's to choose; with 65,535 our responder sends any report in at most two
+    /// replies.
     pub fn next_offset(&self) -> u32 {
         archive::tdisp_collector_next(*self)
     }
