@@ -146,11 +146,11 @@ fn bytes_at<const N: usize>(bytes: &[u8], at: usize) -> [u8; N] {
     out
 }
 
-fn u16_at(bytes: &[u8], at: usize) -> u16 {
+pub(crate) fn u16_at(bytes: &[u8], at: usize) -> u16 {
     u16::from_le_bytes(bytes_at(bytes, at))
 }
 
-fn u32_at(bytes: &[u8], at: usize) -> u32 {
+pub(crate) fn u32_at(bytes: &[u8], at: usize) -> u32 {
     u32::from_le_bytes(bytes_at(bytes, at))
 }
 
@@ -370,7 +370,7 @@ fn clear_to(record: &mut Record, state: u8) {
 }
 
 /// One number for each identity. "Two identities are equal when bits 15:0, bit 24 and, if bit 24 is set, bits 23:16 agree."
-fn identity(function_id: FunctionId) -> u32 {
+pub(crate) fn identity(function_id: FunctionId) -> u32 {
     let FunctionId(id) = function_id;
     if id & SEGMENT_VALID != 0 { id & (REQUESTER | SEGMENT | SEGMENT_VALID) } else { id & REQUESTER }
 }
