@@ -283,6 +283,30 @@ pub fn full_table(rng: &mut Rng, state: u8) -> Vec<u8> {
     table
 }
 
+/// A table of one to three records and the place of one in CONFIG_UNLOCKED whose report has that total, 20 to 200.
+pub fn table_reporting(rng: &mut Rng, total: usize) -> (Vec<u8>, usize) {
+    let records = 1 + rng.index(3);
+    let mut table = valid_table(rng, records);
+    let place = RECORD * rng.index(records);
+    // 20 + 16N + L is the total: at most 52 bytes of it are information.
+    let counted = total - 20;
+    let (least, most) = (counted.saturating_sub(52).div_ceil(16), (counted / 16).min(8));
+    let n = least + rng.index(most - least + 1);
+    let l = counted - 16 * n;
+    let mut record = valid_record(rng, function_id(&table[place..]), 0, n);
+    record[200] = l as u8;
+    record[204..].fill(0);
+    rng.fill(&mut record[204..204 + l]);
+    put(&mut table, place, &record);
+    (table, place)
+}
+
+/// The FUNCTION_ID in another way that means the same: bits 31:25 and a segment that is not marked valid are ignored.
+pub fn alias(rng: &mut Rng, function_id: u32) -> u32 {
+    let ignored = if function_id & 0x0100_0000 == 0 { 0xFEFF_0000 } else { 0xFE00_0000 };
+    function_id ^ (rng.u64() as u32 & ignored)
+}
+
 // ---- Spoiled tables -------------------------------------------------------------------------------------------------
 
 /// Breaks one rule of 01 in one place and gives the number that 01 gives for it.
@@ -606,6 +630,23 @@ pub fn respond_call(rng: &mut Rng, table: &[u8]) -> Call {
     Call::Respond { request, reply, nonce, ready: !rng.once_in(8), streams, session }
 }
 
+/// The request with right buffers: a reply buffer of 256 bytes, a nonce that is ready, all streams secure.
+pub fn lent(rng: &mut Rng, request: Vec<u8>) -> Call {
+    let (reply, nonce, session) = (rng.bytes(256), rng.bytes(32), Session(low_number(rng)));
+    Call::Respond { request, reply, nonce, ready: true, streams: vec![0xFF; 32], session }
+}
+
+/// A lock request that is accepted, of a record in CONFIG_UNLOCKED.
+pub fn good_lock(rng: &mut Rng, record: &[u8]) -> Vec<u8> {
+    let mut payload = rng.bytes(20);
+    put(&mut payload, 0, &u16::to_le_bytes(rng.pick(&[0, 1, 4, 5])));
+    payload[2] = low_number(rng);
+    let (least, greatest) = shift_bounds(record);
+    put(&mut payload, 4, &(rng.between(least, greatest) * 4096).to_le_bytes());
+    let id = alias(rng, function_id(record)).to_le_bytes();
+    [&[0x10, 0x83, 0, 0][..], &id, &[0; 8], &payload].concat()
+}
+
 pub fn register_call(rng: &mut Rng, table: &[u8]) -> Call {
     let records: Vec<&[u8]> = table.chunks_exact(RECORD).collect();
     let record = if records.is_empty() { None } else { Some(rng.pick(&records)) };
@@ -711,6 +752,32 @@ pub fn report_bytes(fields: &Report) -> Vec<u8> {
     bytes.extend(fields.l.to_le_bytes());
     bytes.extend(fields.information.iter().take(fields.l as usize));
     bytes
+}
+
+/// The fields that a record in CONFIG_UNLOCKED reports once this request has locked it. "INTERFACE_INFO with bit 0 from
+/// NO_FW_UPDATE, ... MSI-X control (0 unless LOCK_MSIX), ... N ranges with shifted first page, ... Attribute bits 0 and 1 are
+/// cleared unless LOCK_MSIX."
+pub fn reported(record: &[u8], lock: &[u8]) -> Report {
+    let u16_at = |at: usize| u16::from_le_bytes([record[at], record[at + 1]]);
+    let shift = i64::from_le_bytes(lock[20..28].try_into().unwrap()) / 4096;
+    let (no_fw_update, lock_msix) = (lock[16] & 1, lock[16] & 4 != 0);
+    let (n, l) = (range_count(record), information_length(record));
+    let mut fields = Report {
+        info: u16_at(12) | u16::from(no_fw_update),
+        msix: if lock_msix { u16_at(14) } else { 0 },
+        lnr: u16_at(16),
+        tph: u32_at(record, 20),
+        n: n as u32,
+        l: l as u32,
+        ..Report::ZERO
+    };
+    for (index, range) in fields.ranges.iter_mut().enumerate().take(n) {
+        *range = range_at(record, index);
+        range.first = (range.first as i64 + shift) as u64;
+        range.attributes &= if lock_msix { 0x000F } else { 0x000C };
+    }
+    put(&mut fields.information, 0, &record[204..204 + l]);
+    fields
 }
 
 /// A report to read: whole, cut or lengthened, with a field over its edge, scratched, or of no plan.
