@@ -38,8 +38,9 @@ module _ (p : List ℕ) where
   pub reply-long : (b : Bool) → b ≡ isReportReply p → not b ≡ false → leastReportReply ≤ length p
   reply-long b told e = report-long (sym told ∙ not-false b e)
 
-  pub reply-has-interface : (b : Bool) → b ≡ isReportReply p → not b ≡ false → 4 + 4 ≤ length p
-  reply-has-interface b told e = omega (arith, reply-long b told e)
+  -- so it has the four bytes from a place below
+  pub reply-has-four : (at : ℕ) (b : Bool) → at + 4 ≤ leastReportReply → b ≡ isReportReply p → not b ≡ false → at + 4 ≤ length p
+  reply-has-four at b h told e = omega (arith, reply-long b told e)
 
 -- ---- the verdict: a is what the first test answered, b the second, i and j the two identities, n what the portion says, x the total said
 

@@ -1,6 +1,8 @@
--- `judge` meets its contract: a way out for each name. Assumes nothing.
+-- `judge` meets its contract: a way out for each name. `and-left` lets a test ask more, so that one that asks too much is refused where it tells a
+-- wrong name. Assumes nothing.
 use borrow.Author.Needs.{needs}
-use Rattle.rules.proofs.Collections.{reply-long, reply-has-interface, not-report, other-interface, other-length, total-different, total-over, is-taken}
+use Rattle.rules.proofs.Bools.{and-left}
+use Rattle.rules.proofs.Collections.{reply-long, reply-has-four, not-report, other-interface, other-length, total-different, total-over, is-taken}
 use Rattle.collector.proofs.Collector.judge.Statement.{statement}
 use Rattle.collector.proofs.Collector.judge.Tie as tie
 
@@ -8,10 +10,10 @@ returns : tie.Need-returns
 returns c = search not-report
 
 identity-at-requires : tie.Need-identity-at-requires
-identity-at-requires c κs = search reply-has-interface
+identity-at-requires c κs = search (reply-has-four, needs)
 
 returns-2 : tie.Need-returns-2
-returns-2 c = search other-interface
+returns-2 c = search (other-interface, and-left)
 
 portion-said-requires : tie.Need-portion-said-requires
 portion-said-requires c κs = search reply-long
@@ -23,7 +25,7 @@ total-said-requires : tie.Need-total-said-requires
 total-said-requires c κs = search reply-long
 
 returns-4 : tie.Need-returns-4
-returns-4 c = search total-different
+returns-4 c = search (total-different, and-left)
 
 returns-5 : tie.Need-returns-5
 returns-5 c = search total-over
