@@ -11,7 +11,7 @@ use lib.Dec.{ltb}
 use lib.ListN.{length}
 use Rattle.rules.specs.Bytes.{Bytes, num}
 use Rattle.rules.specs.Call.{Call, Request, step}
-use Rattle.rules.specs.Collector.{Collection, fresh, finished, collected}
+use Rattle.rules.specs.Collector.{Collection, fresh, nextOffset, finished, portionNumber, portionVerdict, collected}
 use Rattle.rules.specs.Identity.{identityOf}
 use Rattle.rules.specs.Record.{Rec, state, recordOk}
 use Rattle.rules.specs.Report.{mostReport, mostPortion, reportBytes, reportOf, reportTotal, portionBytes, readNumber, handedBack}
@@ -19,6 +19,8 @@ use Rattle.rules.specs.Request.{Lent}
 use Rattle.rules.specs.Table.{records, recordAt, recordBytes, find, tableNumber}
 use Rattle.rules.specs.declared.Found.the-variants.{At}
 use Rattle.rules.specs.declared.Identity.{Identity}
+use Rattle.rules.specs.declared.PortionVerdict.{PortionVerdict}
+use Rattle.rules.specs.declared.PortionVerdict.the-variants.{Taken, NotReport, TotalDifferent}
 use Rattle.rules.proofs.Accepted.{keeps-rules}
 use Rattle.rules.proofs.Kept.{count-most, information-most}
 use Rattle.rules.proofs.Lookup.{find-at}
@@ -27,13 +29,14 @@ use Rattle.rules.proofs.Portions.{length-of}
 use Rattle.rules.proofs.RecordReport.{record-accepted, record-fields}
 use Rattle.rules.proofs.Records.{length-records, record-part}
 use Rattle.rules.proofs.Shown.{total-same}
-use Rattle.demands.specs.Collected.{Ask, calls, lengthAsked, AsksNext, replyTo, tableAt, handed, tableAfter, collection, AskedInTurn, no-ask, asked, OneLock, Collects, wholeReport, FinishedIsWhole, TakesMore, EveryReplyTaken, Answered, all-answered, answered, GetsFinished}
+use Rattle.demands.specs.Collected.{Ask, calls, lengthAsked, AsksNext, replyTo, tableAt, handed, tableAfter, collection, AskedInTurn, no-ask, asked, OneLock, Collects, wholeReport, FinishedIsWhole, TakesMore, EveryReplyTaken, ElsewhereRefused, Answered, all-answered, answered, GetsFinished}
 use Rattle.demands.specs.Exactly.{Arrives, LockStands, in-locked, in-run}
+use Rattle.demands.specs.Histories.{Asks}
 use Rattle.demands.specs.Machine.{run}
-use Rattle.demands.specs.ReportStays.{Leaves}
+use Rattle.demands.specs.ReportStays.{Along, Leaves}
 use Rattle.demands.proofs.Asked.{askedPortion, Gets, reply-gets, reply-portion}
 use Rattle.demands.proofs.Histories.{found-after}
-use Rattle.demands.proofs.Holding.{Holds, fresh-holds, nothing-left, error-left, portion, is-taken, still-holds, holds-more, finished-all, not-finished, full-finished}
+use Rattle.demands.proofs.Holding.{Holds, fresh-holds, nothing-left, error-left, portion, nothing-told, error-told, elsewhere, is-taken, still-holds, holds-more, finished-all, not-finished, full-finished}
 use Rattle.demands.proofs.Lasting.{along-front, along-back, lasting-same}
 use Rattle.demands.proofs.Turns.{wide}
 
@@ -70,7 +73,7 @@ module _ (id : ℕ) (whole : List ℕ) (small : length whole ≤ mostReport) whe
     q-long = omega (arith, asks .asks .length-is)
 
     -- its portion, as the collector's OFFSET and the report say it
-    portion-is : (inside : c .held < length whole) → askedPortion q r ≡ portion id whole small c h q q-long (asks .asks .who-is) (lengthAsked l) inside
+    portion-is : (inside : c .held < length whole) → askedPortion q r ≡ portion whole small q q-long (c .held) (lengthAsked l) inside
     unfolding portionBytes
     portion-is inside = rw (asks .offset-is, x .total-is, x .report-is)
 
@@ -167,6 +170,21 @@ module _ (id : ℕ) (whole : List ℕ) (small : length whole ≤ mostReport) whe
       gets-on k n rest (collected c p) (tableAfter step a t) (reply-holds c h (a .lent) m (recordAt u k) (w .here) p reply) (w .after) more (w .then) all
       (still-enough (min n mostPortion) (collected c p .held) (c .held) (length rest) brings (reply-keeps c h (a .lent) m (recordAt u k) (w .here) p reply) enough)
 
+  -- one asked elsewhere is not taken, once a reply was
+  refused : (v w : PortionVerdict) → v ≡ w → (portionNumber w ≡ 0 → ⊥) → v ≡ Taken → ⊥
+  refused v w e n t = n (ap portionNumber (sym e ∙ t))
+
+  asked-elsewhere : (c : Collection) (h : Holds id whole c) (l : Lent) (asks : Asks i 0x84 20 l) (r : Rec) (x : Shows whole r) → c .begun ≡ true
+      → (num (l .request) 16 2 ≡ nextOffset c → ⊥) → (p : List ℕ) → Gets (l .request) r p → portionVerdict c p ≡ Taken → ⊥
+  unfolding portionBytes
+  asked-elsewhere c h l asks r x b n p Gets.nothing = refused _ NotReport (nothing-told c) (λ e. omega arith)
+  asked-elsewhere c h l asks r x b n p (Gets.error code datum) = refused _ NotReport (error-told c code datum (l .request)) (λ e. omega arith)
+  asked-elsewhere c h l asks r x b n p (Gets.portion a) =
+      let q = l .request in
+      let inside : num q 16 2 < length whole = omega (arith, x .total-is) in
+      let told = elsewhere id whole small c h q (omega (arith, asks .length-is)) (asks .who-is) (lengthAsked l) (num q 16 2) inside b n in
+      refused _ TotalDifferent (rw (x .total-is, x .report-is) told) (λ e. omega arith)
+
 -- ---- the report of i's record, in an accepted table
 
 either : (r : Rec) → LockStands r → (state r ≡ 1) ⊎ (state r ≡ 2)
@@ -232,6 +250,18 @@ module _ (id k : ℕ) (asks : List Ask) (t : List ℕ) (a : Collects step id k a
       full-finished id whole small c holds some
       (gets-on id whole small k n asks (fresh id) t (fresh-holds id whole) own (a .in-turn) (a .one-lock) all (omega (arith, own .total-is)))
 
+  -- after any calls more over the lock
+  later : (more : List Call) → Along step (Leaves step (identityOf id)) more (run step (calls asks) t)
+      → Shows whole (recordAt (run step more (run step (calls asks) t)) k) × LockStands (recordAt (run step more (run step (calls asks) t)) k)
+      × (find (identityOf id) (records (run step more (run step (calls asks) t))) ≡ At k)
+  later more lasts =
+      let i = identityOf id in
+      let u = run step (calls asks) t in
+      let (same, s) = lasting-same i (calls asks) t k (a .one-lock .found) (a .one-lock .stands) (a .one-lock .lasting) in
+      let found = found-after i (calls asks) t ∙ a .one-lock .found in
+      let (same′, s′) = lasting-same i more u k found s lasts in
+      (shows-still whole (recordAt t k) (recordAt (run step more u) k) own (same′ ∙ same), s′, found-after i more u ∙ found)
+
 -- However an honest responder's report is cut
 pub finished-is-whole : FinishedIsWhole step
 finished-is-whole id k asks t a b =
@@ -247,18 +277,20 @@ finished-is-whole id k asks t a b =
 
 pub every-reply-taken : EveryReplyTaken step
 every-reply-taken id k asks more l t a lasts n on f =
-    let i = identityOf id in
     let whole = wholeReport (recordAt t k) in
-    let u = run step (calls asks) t in
-    let v = run step more u in
+    let c = collection step asks (fresh id) t in
     let h = holds id k asks t a in
-    let inside = not-finished id whole (small id k asks t a) (collection step asks (fresh id) t) h (some id k asks t a) f in
-    let (same, s) = lasting-same i (calls asks) t k (a .one-lock .found) (a .one-lock .stands) (a .one-lock .lasting) in
-    let found = found-after i (calls asks) t ∙ a .one-lock .found in
-    let (same′, s′) = lasting-same i more u k found s lasts in
-    let x = shows-still whole (recordAt t k) (recordAt v k) (own id k asks t a) (same′ ∙ same) in
+    let inside = not-finished id whole (small id k asks t a) c h (some id k asks t a) f in
+    let (x, s, found) = later id k asks t a more lasts in
     rw (own id k asks t a .total-is)
-    (next-taken id whole (small id k asks t a) k (collection step asks (fresh id) t) v l h n x s′ (found-after i more u ∙ found) on inside)
+    (next-taken id whole (small id k asks t a) k c (run step more (run step (calls asks) t)) l h n x s found on inside)
+
+pub elsewhere-refused : ElsewhereRefused step
+elsewhere-refused id k asks more l t a lasts n b other =
+    let i = identityOf id in
+    let (x, s, found) = later id k asks t a more lasts in
+    asked-elsewhere id (wholeReport (recordAt t k)) (small id k asks t a) (collection step asks (fresh id) t) (holds id k asks t a) l n
+    (recordAt (run step more (run step (calls asks) t)) k) x b other (replyTo step l (run step more (run step (calls asks) t))) (reply-gets i l _ k n found)
 
 pub gets-finished : GetsFinished step
 gets-finished = record {

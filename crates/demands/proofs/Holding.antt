@@ -2,19 +2,19 @@
 use mathlib.Core.Path.{_≡_, refl, sym, ap, _∙_}
 use mathlib.Core.Bool.{Bool, true, false, not, _&&_}
 use mathlib.Core.List.{List, [], _++_}
-use Prim.Native.Nat.{ℕ, _+_, _≤_, _<_, min}
+use Prim.Native.Nat.{ℕ, _+_, _-_, _≤_, _<_, min}
 use native.Mathlib.Omega.{arith}
-use borrow.Author.Tests.{eq-eqb, le-ltb, eqb-true, eqb-false}
-use lib.Dec.{eqb}
+use borrow.Author.Tests.{eq-eqb, ne-eqb, le-ltb, eqb-true, eqb-false}
+use lib.Dec.{eqb, ltb}
 use lib.ListN.{length, take, drop, length-append, length-replicate}
 use lib.Seq.{take-at, take-add, take-length, length-take-le}
-use Rattle.rules.specs.Bytes.{bytesOf, part, over}
-use Rattle.rules.specs.Collector.{Collection, fresh, heldBytes, finished, portionSaid, remainderSaid, totalSaid, isReportReply, isForIt, portionVerdict, grown, collected}
+use Rattle.rules.specs.Bytes.{if_then_else_, bytesOf, part, over}
+use Rattle.rules.specs.Collector.{Collection, fresh, heldBytes, finished, portionSaid, remainderSaid, totalSaid, portionIn, isReportReply, isForIt, portionVerdict, grown, collected}
 use Rattle.rules.specs.Identity.{identityOf, identityAt, same}
 use Rattle.rules.specs.Report.{mostReport, mostPortion, portionLength, remainderLength}
 use Rattle.rules.specs.Request.{message, errorMessage}
 use Rattle.rules.specs.declared.Identity.{Identity}
-use Rattle.rules.specs.declared.PortionVerdict.the-variants.{Taken}
+use Rattle.rules.specs.declared.PortionVerdict.the-variants.{Taken, NotReport, TotalDifferent, TotalOver}
 use Rattle.rules.proofs.Bools.{clash, and-left, and-right}
 use Rattle.rules.proofs.Parts.{length-part, length-over}
 use Rattle.rules.proofs.ReportReply.{error-none, length-reply, portion-said, remainder-said, interface-said, portion-in, is-report}
@@ -41,18 +41,76 @@ fresh-holds id whole = record {
 
 -- ---- a reply that is none
 
-left-by : (c : Collection) (p : List ℕ) → isReportReply p ≡ false → collected c p ≡ c
-unfolding collected portionVerdict
-left-by c p e = rw e
+none-told : (c : Collection) (p : List ℕ) → isReportReply p ≡ false → portionVerdict c p ≡ NotReport
+unfolding portionVerdict
+none-told c p e = rw e
+
+none-left : (c : Collection) (p : List ℕ) → isReportReply p ≡ false → collected c p ≡ c
+unfolding collected
+none-left c p e = rw (none-told c p e)
+
+pub nothing-told : (c : Collection) → portionVerdict c [] ≡ NotReport
+unfolding isReportReply
+nothing-told c = none-told c [] refl
+
+pub error-told : (c : Collection) (code datum : ℕ) (q : List ℕ) → portionVerdict c (errorMessage code datum q) ≡ NotReport
+error-told c code datum q = none-told c (errorMessage code datum q) (error-none code datum q)
 
 pub nothing-left : (c : Collection) → collected c [] ≡ c
 unfolding isReportReply
-nothing-left c = left-by c [] refl
+nothing-left c = none-left c [] refl
 
 pub error-left : (c : Collection) (code datum : ℕ) (q : List ℕ) → collected c (errorMessage code datum q) ≡ c
-error-left c code datum q = left-by c (errorMessage code datum q) (error-none code datum q)
+error-left c code datum q = none-left c (errorMessage code datum q) (error-none code datum q)
 
--- ---- a portion
+-- ---- a portion of a report, from a place on
+
+module _ (whole : List ℕ) (small : length whole ≤ mostReport) (q : List ℕ) (q-long : 16 ≤ length q) (at asked : ℕ) (inside : at < length whole) where
+  abbrev P : ℕ
+  P = portionLength (length whole) at asked
+
+  abbrev R : ℕ
+  R = remainderLength (length whole) at asked
+
+  abbrev bytes : List ℕ
+  bytes = part whole at P
+
+  -- the reply that the responder sends
+  abbrev pub portion : List ℕ
+  portion = message 0x04 q (bytesOf 2 P ++ bytesOf 2 R ++ bytes)
+
+  P-fits : P < 65536
+  P-fits = omega arith
+
+  R-fits : R < 65536
+  R-fits = omega arith
+
+  ends : at + P ≤ length whole
+  ends = omega arith
+
+  length-bytes-of : length bytes ≡ P
+  length-bytes-of = length-part whole at P ends
+
+  said : portionSaid portion ≡ P
+  said = portion-said q q-long P R bytes P-fits R-fits
+
+  -- what is said of the rest comes to the end of the report
+  total-said : (c : Collection) → totalSaid c portion ≡ c .held + (length whole - at)
+  total-said c = rw (said, remainder-said q q-long P R bytes P-fits R-fits) (omega arith)
+
+  length-said : length portion ≡ 20 + P
+  length-said = length-reply q q-long P R bytes P-fits R-fits ∙ rw length-bytes-of
+
+  bytes-in : portionIn portion ≡ bytes
+  bytes-in = portion-in q q-long P R bytes P-fits R-fits
+
+  -- for its interface, of any total: what is left to ask
+  to-ask : (c : Collection) → same (identityOf (c .id)) (identityAt q 4) ≡ true → (x : ℕ) → totalSaid c portion ≡ x
+      → portionVerdict c portion ≡ (if c .begun && not (eqb x (c .total)) then TotalDifferent else if ltb mostReport x then TotalOver else Taken)
+  unfolding portionVerdict
+  to-ask c who x e =
+      let mine : isForIt c portion ≡ true = rw (interface-said q q-long P R bytes P-fits R-fits) who in
+      rw (is-report q q-long P R bytes P-fits R-fits, mine, e, said, eq-eqb (length portion) (20 + P) length-said)
 
 -- a total that is not different from before
 not-different : (b : Bool) (x y : ℕ) → (b ≡ true → y ≡ x) → b && not (eqb x y) ≡ false
@@ -60,76 +118,73 @@ not-different true x y f = rw (eq-eqb x y (sym (f refl)))
 not-different false x y f = refl
 
 module _ (id : ℕ) (whole : List ℕ) (small : length whole ≤ mostReport) (c : Collection) (h : Holds id whole c) where
+  module _ (q : List ℕ) (q-long : 16 ≤ length q) (who : same (identityOf id) (identityAt q 4) ≡ true) (asked : ℕ) where
+    mine : same (identityOf (c .id)) (identityAt q 4) ≡ true
+    mine = rw (h .id-is) who
+
+    -- asked elsewhere, once a reply was taken, it is refused: its total is different
+    pub elsewhere : (at : ℕ) (inside : at < length whole) → c .begun ≡ true → (at ≡ c .held → ⊥) → portionVerdict c (portion whole small q q-long at asked inside) ≡ TotalDifferent
+    elsewhere at inside b n =
+        let x = c .held + (length whole - at) in
+        let other : x ≡ c .total → ⊥ = λ e. n (omega (arith, h .begun-with b, h .within)) in
+        to-ask whole small q q-long at asked inside c mine x (total-said whole small q q-long at asked inside c) ∙ rw (b, ne-eqb x (c .total) other)
+
+  -- asked at its OFFSET
   module _ (q : List ℕ) (q-long : 16 ≤ length q) (who : same (identityOf id) (identityAt q 4) ≡ true) (asked : ℕ) (inside : c .held < length whole) where
-    abbrev P : ℕ
-    P = portionLength (length whole) (c .held) asked
+    abbrev n : ℕ
+    n = portionLength (length whole) (c .held) asked
 
-    abbrev R : ℕ
-    R = remainderLength (length whole) (c .held) asked
+    abbrev new : List ℕ
+    new = part whole (c .held) n
 
-    -- the portion that the responder sends
-    abbrev bytes : List ℕ
-    bytes = part whole (c .held) P
+    abbrev reply : List ℕ
+    reply = portion whole small q q-long (c .held) asked inside
 
-    abbrev pub portion : List ℕ
-    portion = message 0x04 q (bytesOf 2 P ++ bytesOf 2 R ++ bytes)
+    n-ends : c .held + n ≤ length whole
+    n-ends = omega arith
 
-    P-fits : P < 65536
-    P-fits = omega arith
+    long : length new ≡ n
+    long = length-part whole (c .held) n n-ends
 
-    R-fits : R < 65536
-    R-fits = omega arith
-
-    ends : c .held + P ≤ length whole
-    ends = omega arith
-
-    length-bytes-of : length bytes ≡ P
-    length-bytes-of = length-part whole (c .held) P ends
-
-    said : portionSaid portion ≡ P
-    said = portion-said q q-long P R bytes P-fits R-fits
-
-    total-said : totalSaid c portion ≡ length whole
-    total-said = rw (said, remainder-said q q-long P R bytes P-fits R-fits) (omega arith)
+    total-is : totalSaid c reply ≡ length whole
+    total-is = total-said whole small q q-long (c .held) asked inside c ∙ omega arith
 
     -- it is taken
-    pub is-taken : portionVerdict c portion ≡ Taken
-    unfolding portionVerdict
+    pub is-taken : portionVerdict c reply ≡ Taken
     is-taken =
-        let mine : isForIt c portion ≡ true = rw (interface-said q q-long P R bytes P-fits R-fits, h .id-is) who in
-        let long : length portion ≡ 20 + P = length-reply q q-long P R bytes P-fits R-fits ∙ rw length-bytes-of in
-        rw (is-report q q-long P R bytes P-fits R-fits, mine, total-said, said, eq-eqb (length portion) (20 + P) long)
-        (rw (not-different (c .begun) (length whole) (c .total) (h .begun-with), le-ltb mostReport (length whole) small))
+        to-ask whole small q q-long (c .held) asked inside c (mine q q-long who asked) (length whole) total-is
+        ∙ rw (not-different (c .begun) (length whole) (c .total) (h .begun-with), le-ltb mostReport (length whole) small)
 
     -- and this is what it makes of the collector
-    grows : collected c portion ≡ record { id = c .id; bytes = over (c .held) bytes (c .bytes); held = c .held + P; begun = true; total = length whole }
+    grows : collected c reply ≡ record { id = c .id; bytes = over (c .held) new (c .bytes); held = c .held + n; begun = true; total = length whole }
     unfolding collected grown
-    grows = rw (is-taken, total-said, said, portion-in q q-long P R bytes P-fits R-fits)
+    grows =
+        rw (is-taken, total-is, said whole small q q-long (c .held) asked inside, bytes-in whole small q q-long (c .held) asked inside)
 
     -- the front of the report, longer by the portion
-    longer : take (c .held + P) (over (c .held) bytes (c .bytes)) ≡ take (c .held + P) whole
+    longer : take (c .held + n) (over (c .held) new (c .bytes)) ≡ take (c .held + n) whole
     unfolding over part
     longer =
         let fits : c .held ≤ length (c .bytes) = omega (arith, h .room, h .within) in
-        let front : length (take (c .held) (c .bytes) ++ bytes) ≡ c .held + P = rw (length-append, length-take-le (c .held) (c .bytes) fits, length-bytes-of) in
-        take-at (take (c .held) (c .bytes) ++ bytes) (drop (c .held + length bytes) (c .bytes)) (c .held + P) front
-        ∙ ap (λ (x : List ℕ). x ++ bytes) (h .front)
-        ∙ sym (take-add (c .held) P whole)
+        let front : length (take (c .held) (c .bytes) ++ new) ≡ c .held + n = rw (length-append, length-take-le (c .held) (c .bytes) fits, long) in
+        take-at (take (c .held) (c .bytes) ++ new) (drop (c .held + length new) (c .bytes)) (c .held + n) front
+        ∙ ap (λ (x : List ℕ). x ++ new) (h .front)
+        ∙ sym (take-add (c .held) n whole)
 
-    pub still-holds : Holds id whole (collected c portion)
+    pub still-holds : Holds id whole (collected c reply)
     still-holds =
         rw grows
         (record {
           id-is = h .id-is;
-          room = length-over (c .held) bytes (c .bytes) (omega (arith, length-bytes-of, h .room, ends)) ∙ h .room;
-          within = ends;
+          room = length-over (c .held) new (c .bytes) (omega (arith, long, h .room, n-ends)) ∙ h .room;
+          within = n-ends;
           front = longer;
           begun-with = λ e. refl;
           not-begun = λ e. clash e;
         })
 
     -- it holds more by what was asked for
-    pub holds-more : min (c .held + min asked mostPortion) (length whole) ≤ collected c portion .held
+    pub holds-more : min (c .held + min asked mostPortion) (length whole) ≤ collected c reply .held
     holds-more = rw grows (omega arith)
 
   -- ---- finished, or not

@@ -127,6 +127,15 @@ EveryReplyTaken next =
     → Arrives l (run next more (run next (calls asks) t)) → finished (collection next asks (fresh id) t) ≡ false
     → TakesMore (collection next asks (fresh id) t) l (reportTotal (recordAt t k)) (replyTo next l (run next more (run next (calls asks) t)))
 
+-- A reply carries no OFFSET, so what else is asked for in between the collector can tell by the total alone. It does: once a reply is taken, a reply to
+-- a request for the same report at any OFFSET but the next is not taken.
+abbrev pub ElsewhereRefused : Machine → Type 0
+ElsewhereRefused next =
+    (id k : ℕ) (asks : List Ask) (more : List Call) (l : Lent) (t : List ℕ) → Collects next id k asks t
+    → Along next (Leaves next (identityOf id)) more (run next (calls asks) t) → Asks (identityOf id) 0x84 20 l
+    → collection next asks (fresh id) t .begun ≡ true → (num (l .request) 16 2 ≡ nextOffset (collection next asks (fresh id) t) → ⊥)
+    → portionVerdict (collection next asks (fresh id) t) (replyTo next l (run next more (run next (calls asks) t))) ≡ Taken → ⊥
+
 -- asks that no refusal stops, of LENGTHs of at least n
 pub data Answered (next : Machine) (n : ℕ) : List Ask → List ℕ → Type 0 where
   all-answered : {t : List ℕ} → Answered next n [] t
