@@ -47,8 +47,8 @@ uint32_t tdisp_collector_next(struct tdisp_collector c);
 /* Takes a reply. `number`: 0 taken; else the first that applies of: 30 not a report reply (under 20 bytes, other version or type); 31 other
  * interface; 32 length not as the portion says; 33 total different from before; 34 total over 200. The total is the bytes held plus portion plus
  * remainder. Taken: `collector` has the portion behind what was held; a portion of 0 moves nothing, and when to give up is the host's to say.
- * Refused: `collector` is the one that was given, byte for byte. A reply carries no OFFSET, so a portion asked for elsewhere whose size fits cannot
- * be told from the right one. */
+ * Refused: `collector` is the one that was given, byte for byte. A reply carries no OFFSET: a first one that was asked for elsewhere than at 0 is
+ * taken if its total fits; later ones that were asked for elsewhere under the same lock are refused, by their total. */
 struct tdisp_taken tdisp_collector_take(struct tdisp_collector c, const uint8_t *reply, size_t reply_len);
 
 /* 1 if all of the report is there, else 0. */

@@ -2,8 +2,8 @@
 //!
 //! A [`Collector`] says which OFFSET to ask for next, and takes the reply or refuses it. If each portion is asked for at that
 //! OFFSET, while one lock stands from the first reply to the last, the finished collection is the whole report, however it was
-//! cut, and [`read_report`](crate::read_report) reads it. A reply carries no OFFSET, so a portion asked for elsewhere whose size
-//! fits cannot be told from the right one.
+//! cut, and [`read_report`](crate::read_report) reads it. A reply carries no OFFSET: a first one that was asked for elsewhere than
+//! at 0 is taken if its total fits; later ones that were asked for elsewhere under the same lock are refused, by their total.
 //!
 //! ```
 //! use tdisp::host::Collector;
