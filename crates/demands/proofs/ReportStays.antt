@@ -5,10 +5,9 @@ use mathlib.Core.List.{List, [], _∷_, _++_}
 use mathlib.Core.Logic.{inl, inr, ⊎-elim}
 use Prim.Native.Nat.{ℕ, _+_, _≤_, _<_}
 use native.Mathlib.Omega.{arith}
-use lib.ListN.{length, set}
-use lib.Seq.{set-getD}
+use lib.ListN.{length}
 use Rattle.rules.specs.Bytes.{byte, num, over}
-use Rattle.rules.specs.Call.{join, Outcome, Call, Request, step}
+use Rattle.rules.specs.Call.{Outcome, Call, Request, step}
 use Rattle.rules.specs.Change.{live}
 use Rattle.rules.specs.Record.{Rec}
 use Rattle.rules.specs.Report.{reportBytes, reportOf}
@@ -17,9 +16,8 @@ use Rattle.rules.specs.Table.{records, recordAt, find, tableNumber}
 use Rattle.rules.specs.declared.Found.the-variants.{At}
 use Rattle.rules.proofs.Changes.{state-running}
 use Rattle.rules.proofs.Configured.{Configured}
-use Rattle.rules.proofs.Effects.{Becomes, effect-becomes}
-use Rattle.rules.proofs.Joined.{join-records}
 use Rattle.rules.proofs.Overs.{num-same}
+use Rattle.rules.proofs.ServedCall.{report-leaves}
 use Rattle.rules.proofs.Shown.{report-same, report-running, total-same, portion-same, answer-same}
 use Rattle.rules.proofs.Stepped.{stays-accepted}
 use Rattle.demands.specs.Exactly.{Reaches, LockStands}
@@ -30,7 +28,6 @@ use Rattle.demands.proofs.Histories.{found-after}
 use Rattle.demands.proofs.Lasting.{live-stands, along-append, lasting-same, passed-live, passed-lasts}
 use Rattle.demands.proofs.Lists.{front-is}
 use Rattle.demands.proofs.Lookups.{place-stays}
-use Rattle.demands.proofs.Named.{whole-records}
 use Rattle.demands.proofs.Tells.{Started, accepted-start}
 use Rattle.demands.proofs.Turns.{live-in, wide}
 
@@ -80,17 +77,7 @@ unfolding run
 accepted-after [] t z = z
 accepted-after (c ∷ h) t z = accepted-after h (step c t .table) (stays-accepted c t z)
 
--- leaves the record,
-report-keeps : (l : Lent) (r : Rec) → kindOf (l .request) ≡ 0x84 → effect l r .rec ≡ r
-report-keeps l r kind = by (effect l r) (effect-becomes l r)
-  where
-    by : (e : Effect) → Becomes l r e → e .rec ≡ r
-    by e Becomes.same = refl
-    by e (Becomes.locks x z f o s d) = absurd (omega arith)
-    by e (Becomes.runs x z n) = absurd (omega arith)
-    by e (Becomes.clears x) = absurd (omega arith)
-
--- is answered from the report where a lock stands,
+-- is answered from the report where a lock stands
 reply-same : (l m : Lent) (s r : Rec) → kindOf (l .request) ≡ 0x84 → m .request ≡ l .request → LockStands s → LockStands r → reportOf s ≡ reportOf r
     → effect m s .reply ≡ effect l r .reply
 reply-same l m s r kind again a b same =
@@ -109,15 +96,6 @@ module _ (l : Lent) (t : List ℕ) (k : ℕ) (on : Reaches l t k 0x84 20) where
 
   is-replied : replyOf (seen step (Request l) t) ≡ message
   is-replied = ap replyOf is-given ∙ front-is message (l .reply)
-
-  -- and leaves the table
-  table-kept : step (Request l) t .table ≡ t
-  unfolding exactLength
-  table-kept =
-      ap (λ (o : Outcome). o .table) (gets-effect l t k 0x84 on (omega arith) refl)
-      ∙ ap (λ (x : Rec). join (set (records t) k x)) (report-keeps l (recordAt t k) (on .kind-is))
-      ∙ ap join (set-getD (records t) k [])
-      ∙ join-records t (whole-records t (on .accepted))
 
 -- ---- the demand
 
@@ -188,7 +166,7 @@ unfolding run
 same-while-locked l m t k h a s =
     subst
     (λ (u : List ℕ). Along step (Leaves step (named l)) h u → SameReply (seen step (Request l) t) (seen step (Request m) (run step h u)))
-    (sym (table-kept l t k (a .reaches)))
+    (sym (report-leaves l t (a .reaches .kind-is)))
     (same-reply l m t k a h s)
 
 pub same-over-start : SameOverStart step
@@ -198,5 +176,5 @@ same-over-start l m t k before start later a =
     (λ (u : List ℕ). Along step (PassesBy step (named l)) before u → AcceptedStart (named l) (seen step start (run step before u))
     → Along step (PassesBy step (named l)) later (step start (run step before u) .table)
     → SameReply (seen step (Request l) t) (seen step (Request m) (run step (before ++ (start ∷ later)) u)))
-    (sym (table-kept l t k (a .reaches)))
+    (sym (report-leaves l t (a .reaches .kind-is)))
     (same-over l m t k a before start later)

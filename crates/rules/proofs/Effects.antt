@@ -153,3 +153,15 @@ error-keeps l r h = becomes-error l r (effect l r) (effect-becomes l r) h
 pub illegal-stays : (l : Lent) (r : Rec) → legalIn (kindOf (l .request)) (state r) ≡ false → effect l r ≡ fails 0x04 (l .request) r
 unfolding effect
 illegal-stays l r e = rw e
+
+-- ---- a report asked for
+
+-- leaves the record as it was, whatever is replied
+pub report-keeps : (l : Lent) (r : Rec) → kindOf (l .request) ≡ 0x84 → effect l r .rec ≡ r
+report-keeps l r kind = by (effect l r) (effect-becomes l r)
+  where
+    by : (e : Effect) → Becomes l r e → e .rec ≡ r
+    by e same = refl
+    by e (locks c z f o s t) = absurd (omega arith)
+    by e (runs c z n) = absurd (omega arith)
+    by e (clears c) = absurd (omega arith)

@@ -11,7 +11,7 @@ use lib.Seq.{set-getD}
 use Rattle.rules.specs.Bytes.{if_then_else_, byte, over}
 use Rattle.rules.specs.Identity.{identityAt}
 use Rattle.rules.specs.Record.{Rec}
-use Rattle.rules.specs.Request.{Lent, Effect, header, message, errorMessage, effect, verdict}
+use Rattle.rules.specs.Request.{Lent, Effect, kindOf, header, message, errorMessage, effect, verdict}
 use Rattle.rules.specs.Table.{records, recordAt, recordBytes, identity, find, tableNumber}
 use Rattle.rules.specs.Call.{join, Outcome, refused, served, carriedOut, leastReply, leastRequest, answered}
 use Rattle.rules.specs.declared.Found.the-variants.{At}
@@ -21,7 +21,7 @@ use Rattle.rules.proofs.Accepted.{whole, keeps-rules}
 use Rattle.rules.proofs.Bools.{and-right}
 use Rattle.rules.proofs.Checks.{serves}
 use Rattle.rules.proofs.Configured.{Configured, identity-same}
-use Rattle.rules.proofs.Effects.{Becomes, effect-becomes, length-effect, kept-bytes, same-identity}
+use Rattle.rules.proofs.Effects.{Becomes, effect-becomes, length-effect, kept-bytes, same-identity, report-keeps}
 use Rattle.rules.proofs.Joined.{join-records, records-set}
 use Rattle.rules.proofs.KeepsRules.{effect-keeps}
 use Rattle.rules.proofs.Lookup.{find-at}
@@ -185,3 +185,12 @@ module _ (l : Lent) (t : List ℕ) where
       by o (carries k on) h =
           let r = recordAt t k in
           same-after l t k on (error-replied l r (l .reply) (effect l r) (effect-becomes l r) h)
+
+  -- a report asked for leaves the table, whatever it gets
+  pub report-leaves : kindOf (l .request) ≡ 0x84 → answered l t .table ≡ t
+  report-leaves kind = by (answered l t) (answered-is l t)
+    where
+      by : (o : Outcome) → Answers l t o → o .table ≡ t
+      by o (refuses n z) = refl
+      by o (errs code datum) = refl
+      by o (carries k on) = same-after l t k on (report-keeps l (recordAt t k) kind)
