@@ -1,10 +1,11 @@
--- The names that are printed. Those of states, requests, replies and error codes are 001's. Assumes nothing.
+-- The names that are printed. Those of states, requests, replies and error codes are 001's, those of a collector's refusals 02's. Assumes nothing.
 use mathlib.Core.List.{List, _++_}
 use Prim.Native.Nat.{ℕ}
 use Prim.Native.String.{String}
 use lib.Dec.{eqb}
 use lib.ListN.{take, replicate}
 use Rattle.rules.specs.Bytes.{if_then_else_}
+use Rattle.rules.specs.declared.PortionVerdict.{PortionVerdict}
 use Rattle.rules.specs.declared.Refusal.{Refusal}
 use Rattle.script.specs.Text.{ascii}
 use Rattle.script.specs.declared.digits.Wrong.{Wrong}
@@ -67,6 +68,15 @@ refusalName Refusal.ReplyShort = "reply buffer under 256 bytes"
 refusalName Refusal.RequestShort = "request under 16 bytes"
 refusalName Refusal.Inputs = "stream map or nonce not 32 bytes"
 refusalName Refusal.Interface = "no record's interface"
+
+-- what a collector finds of a reply
+abbrev pub portionName : PortionVerdict → String
+portionName PortionVerdict.Taken = "taken"
+portionName PortionVerdict.NotReport = "not a report reply"
+portionName PortionVerdict.OtherInterface = "other interface"
+portionName PortionVerdict.OtherLength = "length not as the portion says"
+portionName PortionVerdict.TotalDifferent = "total different from before"
+portionName PortionVerdict.TotalOver = "total over 200"
 
 -- what is wrong with a line
 abbrev pub wrongName : Wrong → String

@@ -1,8 +1,9 @@
 // Names, with spaces up to one length: constants that come back by value, since a literal for each would make the proofs long.
+use rules::PortionVerdict;
 use rules::Refusal;
 use script::digits::Wrong;
 ghost use mathlib.Core.Path.{_≡_};
-ghost use Rattle.show.specs.Names.{nameBytes, stateName, requestName, replyName, errorName, refusalName, wrongName};
+ghost use Rattle.show.specs.Names.{nameBytes, stateName, requestName, replyName, errorName, refusalName, portionName, wrongName};
 
 // The states.
 const CONFIG_UNLOCKED: [u8; 32] = *b"CONFIG_UNLOCKED                 ";
@@ -80,6 +81,19 @@ const REQUEST_SHORT: [u8; 32] = *b"request under 16 bytes          ";
 const INPUTS: [u8; 32] = *b"stream map or nonce not 32 bytes";
 
 const INTERFACE: [u8; 32] = *b"no record's interface           ";
+
+// What a collector finds of a reply.
+const TAKEN: [u8; 32] = *b"taken                           ";
+
+const NOT_REPORT: [u8; 32] = *b"not a report reply              ";
+
+const OTHER_INTERFACE: [u8; 32] = *b"other interface                 ";
+
+const OTHER_LENGTH: [u8; 32] = *b"length not as the portion says  ";
+
+const TOTAL_DIFFERENT: [u8; 32] = *b"total different from before     ";
+
+const TOTAL_OVER: [u8; 32] = *b"total over 200                  ";
 
 // What is wrong with a line.
 const LONG_LINE: [u8; 32] = *b"longer than 1024 bytes          ";
@@ -173,6 +187,20 @@ pub fn refusal(why: Refusal) -> [u8; 32]
         Refusal::RequestShort => REQUEST_SHORT,
         Refusal::Inputs => INPUTS,
         Refusal::Interface => INTERFACE,
+    }
+}
+
+// What a collector finds of a reply.
+pub fn portion(verdict: PortionVerdict) -> [u8; 32]
+    ensures { λ r. ⌜ r ≡ nameBytes (portionName verdict) ⌝ }
+{
+    match verdict {
+        PortionVerdict::Taken => TAKEN,
+        PortionVerdict::NotReport => NOT_REPORT,
+        PortionVerdict::OtherInterface => OTHER_INTERFACE,
+        PortionVerdict::OtherLength => OTHER_LENGTH,
+        PortionVerdict::TotalDifferent => TOTAL_DIFFERENT,
+        PortionVerdict::TotalOver => TOTAL_OVER,
     }
 }
 

@@ -1,74 +1,28 @@
-// A reply's fields, each with its name, its bytes in their order and, where it is a number, the number.
+// A reply's fields.
+use crate::field::field;
+use crate::field::field16;
+use crate::field::field32;
+use crate::field::low_first;
+use crate::field::part;
 use crate::names;
 use crate::say::hex;
 use crate::say::name;
-use crate::say::number;
 use crate::say::say;
 use crate::states;
 use rules::request::HEADER;
 use wire::copy::least;
-use wire::number::num16;
 use wire::number::num32;
 ghost use mathlib.Core.Path.{_≡_};
-ghost use Prim.Native.Nat.{_<_, min};
+ghost use Prim.Native.Nat.{min};
 ghost use lib.ListN.{length};
 ghost use Rattle.show.specs.Reply.{shown};
-
-// The bytes from a place to an end, as far as the reply has them.
-fn part(s: &[u8], at: usize, end: usize) {
-    let last = least(end, s.len());
-    let first = least(at, last);
-    hex(&s[first..last]);
-}
-
-// A field of bytes.
-fn field(title: &[u8], s: &[u8], at: usize, end: usize) {
-    say(b"    ");
-    say(title);
-    say(b":");
-    part(s, at, end);
-    say(b"\n");
-}
-
-// A field's name and its bytes, which stand low byte first.
-fn low_first(title: &[u8], s: &[u8], at: usize, end: usize) {
-    say(b"    ");
-    say(title);
-    say(b", low byte first:");
-    part(s, at, end);
-    say(b" = ");
-}
-
-// A number of 2 bytes.
-fn field16(title: &[u8], s: &[u8], at: usize)
-    requires { ⌜ at < 256 ⌝ }
-{
-    let end = at + 2;
-    if end <= s.len() {
-        low_first(title, s, at, end);
-        number(num16(s, at) as u64, 4);
-        say(b"\n");
-    }
-}
-
-// A number of 4 bytes.
-fn field32(title: &[u8], s: &[u8], at: usize, digits: usize)
-    requires { ⌜ at < 256 ⌝ }
-{
-    let end = at + 4;
-    if end <= s.len() {
-        low_first(title, s, at, end);
-        number(num32(s, at) as u64, digits);
-        say(b"\n");
-    }
-}
 
 // The 16 bytes that every reply begins with.
 fn header(s: &[u8]) {
     field(b"version", s, 0, 1);
     field(b"type", s, 1, 2);
     field(b"reserved", s, 2, 4);
-    field32(b"FUNCTION_ID", s, 4, 8);
+    field32(b"FUNCTION_ID", s, 4);
     field(b"reserved", s, 8, 16);
 }
 
@@ -80,7 +34,7 @@ fn version(s: &[u8]) {
 
 // TDISP_CAPABILITIES.
 fn capabilities(s: &[u8]) {
-    field32(b"DSM_CAPS", s, 16, 8);
+    field32(b"DSM_CAPS", s, 16);
     field(b"REQ_MSGS_SUPPORTED, bit n is 80h + n", s, 20, 36);
     field16(b"LOCK_INTERFACE_FLAGS_SUPPORTED", s, 36);
     field(b"reserved", s, 38, 41);
@@ -110,12 +64,12 @@ fn state(s: &[u8]) {
 // TDISP_ERROR.
 fn error(s: &[u8]) {
     if s.len() >= 24 {
-        low_first(b"ERROR_CODE", s, 16, 20);
-        number(num32(s, 16) as u64, 8);
+        let code = num32(s, 16);
+        low_first(b"ERROR_CODE", s, 16, 4, code as u64);
         say(b" ");
-        name(names::error(num32(s, 16)));
+        name(names::error(code));
         say(b"\n");
-        field32(b"ERROR_DATA", s, 20, 8);
+        field32(b"ERROR_DATA", s, 20);
     }
 }
 
