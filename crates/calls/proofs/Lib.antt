@@ -1,3 +1,4 @@
 -- Laws that belong to no one function.
 pub mod Making
+pub mod Collecting
 pub mod Running

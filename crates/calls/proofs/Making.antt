@@ -16,10 +16,10 @@ use Rattle.rules.proofs.Parts.{take-least}
 use Rattle.script.specs.declared.line.Call.{Call}
 use Rattle.script.specs.declared.settings.Settings.{Settings}
 use Rattle.script.proofs.Places.{first-part}
-use Rattle.calls.specs.Made.{lentBy, callOf}
+use Rattle.calls.specs.Made.{lentBy, requestBy, tableLeft}
 
 -- a front that is lent, cut down to the bytes that are there, is the front asked for
-front : (s : List ℕ) (n end : ℕ) → end ≡ min n (length s) → take (end - 0) (drop 0 s) ≡ take n s
+pub front : (s : List ℕ) (n end : ℕ) → end ≡ min n (length s) → take (end - 0) (drop 0 s) ≡ take n s
 front s n end e = rw (first-part s end) (take-least s n end e)
 
 module _ (request reply reply′ table table′ nonce streams : List ℕ) (n m a b : ℕ) (ready : Bool) (session : Session) (r : Answer) where
@@ -36,10 +36,9 @@ pub asked : (request buffer reply′ table table′ : List ℕ) (room n : ℕ) (
     → table′ ≡ step (rules.Request (lentBy request (take n buffer) s)) table .table
 asked request buffer reply′ table table′ room n s r e g = rw (front buffer n room e) at (g .table-is)
 
-pub asked-front : (bytes reply table table′ : List ℕ) (n end : ℕ) (s : Settings) → end ≡ min n (length bytes)
-    → table′ ≡ step (rules.Request (lentBy (take (end - 0) (drop 0 bytes)) reply s)) table .table
-    → table′ ≡ step (rules.Request (lentBy (take n bytes) reply s)) table .table
-asked-front bytes reply table table′ n end s e g = rw (front bytes n end e) at g
+pub asked-front : (bytes table table′ : List ℕ) (n end : ℕ) (s : Settings) → end ≡ min n (length bytes)
+    → table′ ≡ step (requestBy (take (end - 0) (drop 0 bytes)) s) table .table → table′ ≡ step (requestBy (take n bytes) s) table .table
+asked-front bytes table table′ n end s e g = rw (front bytes n end e) at g
 
 -- the firmware question leaves the table
 firmware-stays : (t : List ℕ) → t ≡ step rules.FirmwareQuestion t .table
@@ -51,8 +50,8 @@ firmware-stays t = go (not (eqb (tableNumber t) 0)) _ _ refl refl
     go false o p e f = rw f
 
 module _ (call : Call) (bytes table table′ : List ℕ) (s : Settings) where
-  pub made : (c : Call) → call ≡ c → table′ ≡ step (callOf c bytes s) table .table → table′ ≡ step (callOf call bytes s) table .table
+  pub made : (c : Call) → call ≡ c → table′ ≡ tableLeft c bytes s table → table′ ≡ tableLeft call bytes s table
   made c e h = rw e h
 
-pub made-firmware : (call : Call) (bytes table : List ℕ) (s : Settings) → call ≡ Call.Firmware → table ≡ step (callOf call bytes s) table .table
+pub made-firmware : (call : Call) (bytes table : List ℕ) (s : Settings) → call ≡ Call.Firmware → table ≡ tableLeft call bytes s table
 made-firmware call bytes table s e = rw e (firmware-stays table)

@@ -1,9 +1,9 @@
--- A line of a script, run: its call as a call of rules, the settings and the table after it. Assumes nothing.
+-- A line of a script, run: its call by the step of rules, the settings and the table after it. Assumes nothing.
 use mathlib.Core.Bool.{Bool, true, false}
-use mathlib.Core.List.{List}
+use mathlib.Core.List.{List, [], _∷_, _++_}
 use Prim.Native.Nat.{ℕ}
 use lib.ListN.{take}
-use Rattle.rules.specs.Bytes.{blank}
+use Rattle.rules.specs.Bytes.{bytesOf, blank}
 use Rattle.rules.specs.Call as rules
 use Rattle.rules.specs.Request.{Lent, lent}
 use Rattle.script.specs.Line.{Reading}
@@ -17,12 +17,22 @@ abbrev pub lentBy : List ℕ → List ℕ → Settings → Lent
 lentBy request reply s =
     lent request reply (take (s .«nonce_bytes») (s .nonce)) (s .ready) (take (s .«stream_bytes») (s .streams)) (s .session)
 
--- a request's bytes are the first of those beside it; its reply buffer is blank
-abbrev pub callOf : Call → List ℕ → Settings → rules.Call
-callOf (Call.Request n) bytes s = rules.Request (lentBy (take n bytes) (take (s .«reply_bytes») (blank 512)) s)
-callOf (Call.RegisterWrite id class) bytes s = rules.RegisterWrite id class
-callOf (Call.Happen event) bytes s = rules.DeviceWide event
-callOf Call.Firmware bytes s = rules.FirmwareQuestion
+-- a request, with a blank reply buffer of the length that is set
+abbrev pub requestBy : List ℕ → Settings → rules.Call
+requestBy request s = rules.Request (lentBy request (take (s .«reply_bytes») (blank 512)) s)
+
+-- GET_DEVICE_INTERFACE_REPORT: the header, OFFSET, LENGTH
+abbrev pub reportRequest : ℕ → ℕ → ℕ → List ℕ
+reportRequest id offset asked = (0x10 ∷ 0x84 ∷ 0 ∷ 0 ∷ []) ++ bytesOf 4 id ++ blank 8 ++ bytesOf 2 offset ++ bytesOf 2 asked
+
+-- the table that a call leaves: what step gives. A request's bytes are the first of those beside it. A collect asks for a report in any number of
+-- requests, each of which leaves the table.
+abbrev pub tableLeft : Call → List ℕ → Settings → List ℕ → List ℕ
+tableLeft (Call.Request n) bytes s t = rules.step (requestBy (take n bytes) s) t .table
+tableLeft (Call.RegisterWrite id class) bytes s t = rules.step (rules.RegisterWrite id class) t .table
+tableLeft (Call.Collect id asked) bytes s t = t
+tableLeft (Call.Happen event) bytes s t = rules.step (rules.DeviceWide event) t .table
+tableLeft Call.Firmware bytes s t = rules.step rules.FirmwareQuestion t .table
 
 -- ---- a line, by what it says and its bytes
 
@@ -49,7 +59,7 @@ abbrev pub tableBy : Line → List ℕ → Settings → List ℕ → List ℕ
 tableBy Line.Empty bytes s t = t
 tableBy (Line.Bad wrong) bytes s t = t
 tableBy (Line.Set setting) bytes s t = t
-tableBy (Line.Do call) bytes s t = rules.step (callOf call bytes s) t .table
+tableBy (Line.Do call) bytes s t = tableLeft call bytes s t
 
 abbrev pub tableAfter : Reading → Settings → List ℕ → List ℕ
 tableAfter r s t = tableBy (r .line) (r .out) s t

@@ -8,7 +8,7 @@ use lib.Dec.{eqb}
 use lib.ListN.{length, take, drop}
 use Rattle.script.proofs.Places.{first-part, last-part}
 use Rattle.script.specs.Digits.{Within, spelled, Bytes, hexBytes, Puts}
-use Rattle.script.specs.Line.{wordOf, followsOf, limitOf, saysOf, saidOf, cappedTo, sizeOf, classedBy, writeBy, writeOf, aloneOf, lineBy, wordsOf, lineOf, Reads}
+use Rattle.script.specs.Line.{wordOf, followsOf, limitOf, saysOf, saidOf, cappedTo, sizeOf, identified, idAndNumber, aloneOf, lineBy, wordsOf, lineOf, Reads}
 use Rattle.script.specs.Text.{isSpace, isNoSpace, before, First, trimmed, trim}
 use Rattle.script.specs.declared.digits.Number.{Number}
 use Rattle.script.specs.declared.digits.Wrong.{Wrong}
@@ -49,8 +49,8 @@ module _ (most : ℕ) (rest : List ℕ) where
 
 -- ---- what a line says
 
-pub says-by : (word w : Word) (n : ℕ) (r : Line) → word ≡ w → r ≡ saysOf w n → r ≡ saysOf word n
-says-by word w n r e f = rw e f
+pub says-by : (word w : Word) (id n : ℕ) (r : Line) → word ≡ w → r ≡ saysOf w id n → r ≡ saysOf word id n
+says-by word w id n r e f = rw e f
 
 pub follows-by : (word w : Word) (f : Follows) → word ≡ w → f ≡ followsOf w → f ≡ followsOf word
 follows-by word w f e h = rw e h
@@ -58,26 +58,23 @@ follows-by word w f e h = rw e h
 pub limit-by : (word w : Word) (n : ℕ) → word ≡ w → n ≤ limitOf (followsOf word) → n ≤ limitOf (followsOf w)
 limit-by word w n e h = rw e at h
 
-module _ (word : Word) (number : Number) where
-  pub said-bad : (wrong : Wrong) → number ≡ Number.Bad wrong → Line.Bad wrong ≡ saidOf word number
+module _ (word : Word) (id : ℕ) (number : Number) where
+  pub said-bad : (wrong : Wrong) → number ≡ Number.Bad wrong → Line.Bad wrong ≡ saidOf word id number
   said-bad wrong e = rw e
 
-  pub said-is : (n : ℕ) (r : Line) → number ≡ Number.Is n → r ≡ saysOf word n → r ≡ saidOf word number
+  pub said-is : (n : ℕ) (r : Line) → number ≡ Number.Is n → r ≡ saysOf word id n → r ≡ saidOf word id number
   said-is n r e f = rw e f
 
-module _ (id : ℕ) (class : List ℕ) (number : Number) (e : number ≡ sizeOf 255 class) where
-  pub class-bad : (wrong : Wrong) → number ≡ Number.Bad wrong → Line.Bad wrong ≡ classedBy id (sizeOf 255 class)
-  class-bad wrong f = rw (← e, f)
+pub limited : (word : Word) (most : ℕ) (n : Number) → most ≡ limitOf (followsOf word) → Within most n → Within (limitOf (followsOf word)) n
+limited word most n e h = rw e at h
 
-  pub class-is : (n : ℕ) → number ≡ Number.Is n → Line.Do (Call.RegisterWrite id n) ≡ classedBy id (sizeOf 255 class)
-  class-is n f = rw (← e, f)
-
-module _ (id : Number) (class : List ℕ) where
-  pub id-bad : (wrong : Wrong) → id ≡ Number.Bad wrong → Line.Bad wrong ≡ writeBy id class
+module _ (word : Word) (most : ℕ) (id : Number) (rest : List ℕ) where
+  pub id-bad : (wrong : Wrong) → id ≡ Number.Bad wrong → Line.Bad wrong ≡ identified word most id rest
   id-bad wrong e = rw e
 
-  pub id-is : (n : ℕ) (r : Line) → id ≡ Number.Is n → r ≡ classedBy n (sizeOf 255 class) → r ≡ writeBy id class
-  id-is n r e f = rw e f
+  pub id-is : (n : ℕ) (number : Number) (r : Line) → id ≡ Number.Is n → number ≡ sizeOf most rest → r ≡ saidOf word n number
+      → r ≡ identified word most id rest
+  id-is n number r e f g = rw (e, ← f) g
 
 module _ (call : Call) (rest : List ℕ) where
   pub extra : 0 < length rest → Line.Bad Wrong.Extra ≡ aloneOf call rest
@@ -97,17 +94,20 @@ module _ (word : Word) (follows : Follows) (f : follows ≡ followsOf word) wher
     pub within-number : follows ≡ Follows.Number most → Within (limitOf (followsOf word)) n
     within-number e = rw (← f, e) h
 
+  pub limit-is : (most : ℕ) → follows ≡ Follows.IdAndNumber most → most ≡ limitOf (followsOf word)
+  limit-is most e = rw (← f, e)
+
   module _ (rest out : List ℕ) where
-    module _ (most : ℕ) (n : Number) (r : Line) (s : r ≡ saidOf word n) where
+    module _ (most : ℕ) (n : Number) (r : Line) (s : r ≡ saidOf word 0 n) where
       pub bytes-follow : (out′ : List ℕ) → follows ≡ Follows.Bytes most
           → n ≡ cappedTo most Wrong.Long (hexBytes rest out .number) → out′ ≡ hexBytes rest out .out → Reads (lineBy word rest out) r out′
-      bytes-follow out′ e p q = rw (← f, e) (record { line-is = s ∙ ap (saidOf word) p; out-is = q })
+      bytes-follow out′ e p q = rw (← f, e) (record { line-is = s ∙ ap (saidOf word 0) p; out-is = q })
 
       pub number-follows : follows ≡ Follows.Number most → n ≡ sizeOf most rest → Reads (lineBy word rest out) r out
-      number-follows e p = rw (← f, e) (record { line-is = s ∙ ap (saidOf word) p; out-is = refl })
+      number-follows e p = rw (← f, e) (record { line-is = s ∙ ap (saidOf word 0) p; out-is = refl })
 
-    pub id-follows : (r : Line) → follows ≡ Follows.IdAndClass → r ≡ writeOf rest → Reads (lineBy word rest out) r out
-    id-follows r e s = rw (← f, e) (record { line-is = s; out-is = refl })
+    pub id-follows : (most : ℕ) (r : Line) → follows ≡ Follows.IdAndNumber most → r ≡ idAndNumber word most rest → Reads (lineBy word rest out) r out
+    id-follows most r e s = rw (← f, e) (record { line-is = s; out-is = refl })
 
     pub nothing-follows : (call : Call) (r : Line) → follows ≡ Follows.Nothing call → r ≡ aloneOf call rest → Reads (lineBy word rest out) r out
     nothing-follows call r e s = rw (← f, e) (record { line-is = s; out-is = refl })
@@ -117,16 +117,16 @@ module _ (word : Word) (follows : Follows) (f : follows ≡ followsOf word) wher
 
 -- ---- the whole line
 
-module _ (rest : List ℕ) where
-  pub no-id : length rest ≡ 0 → Line.Bad Wrong.Missing ≡ writeOf rest
-  unfolding writeOf
+module _ (word : Word) (most : ℕ) (rest : List ℕ) where
+  pub no-id : length rest ≡ 0 → Line.Bad Wrong.Missing ≡ idAndNumber word most rest
+  unfolding idAndNumber
   no-id h = rw (eq-eqb _ _ h)
 
-  pub id-and-class : (end next : ℕ) (id : Number) (r : Line) → (length rest ≡ 0 → ⊥) → First isSpace rest 0 end → First isNoSpace rest end next
+  pub id-then : (end next : ℕ) (id : Number) (r : Line) → (length rest ≡ 0 → ⊥) → First isSpace rest 0 end → First isNoSpace rest end next
       → id ≡ spelled 16 4294967295 Wrong.HexDigit 0 (take (end - 0) (drop 0 rest))
-      → r ≡ writeBy id (take (length rest - next) (drop next rest)) → r ≡ writeOf rest
-  unfolding writeOf
-  id-and-class end next id r h a b e f =
+      → r ≡ identified word most id (take (length rest - next) (drop next rest)) → r ≡ idAndNumber word most rest
+  unfolding idAndNumber
+  id-then end next id r h a b e f =
       let first : before isSpace rest ≡ end = omega (arith, a .is) in
       rw (ne-eqb _ _ h, first, ← b .is)
       (f ∙ rw (last-part rest next, e, first-part rest end))

@@ -12,19 +12,24 @@ module _ (word : List ℕ) where
     unfolding otherWord
     other-1 h = rw (← p, h)
 
-    module _ (b : Bool) (i : a ≡ false) (q : b ≡ isWord word "multicast") where
-      pub other-2 : b ≡ true → Word.Multicast ≡ otherWord word
+    module _ (b : Bool) (i : a ≡ false) (q : b ≡ isWord word "collect") where
+      pub other-2 : b ≡ true → Word.Collect ≡ otherWord word
       unfolding otherWord
       other-2 h = rw (← p, i, ← q, h)
 
-      module _ (c : Bool) (j : b ≡ false) (r : c ≡ isWord word "firmware") where
-        pub other-3 : c ≡ true → Word.Firmware ≡ otherWord word
+      module _ (c : Bool) (j : b ≡ false) (r : c ≡ isWord word "multicast") where
+        pub other-3 : c ≡ true → Word.Multicast ≡ otherWord word
         unfolding otherWord
         other-3 h = rw (← p, i, ← q, j, ← r, h)
 
-        pub other-4 : c ≡ false → Word.Unknown ≡ otherWord word
-        unfolding otherWord
-        other-4 h = rw (← p, i, ← q, j, ← r, h)
+        module _ (d : Bool) (k : c ≡ false) (s : d ≡ isWord word "firmware") where
+          pub other-4 : d ≡ true → Word.Firmware ≡ otherWord word
+          unfolding otherWord
+          other-4 h = rw (← p, i, ← q, j, ← r, k, ← s, h)
+
+          pub other-5 : d ≡ false → Word.Unknown ≡ otherWord word
+          unfolding otherWord
+          other-5 h = rw (← p, i, ← q, j, ← r, k, ← s, h)
 
   module _ (a : Bool) (p : a ≡ isWord word "stream-down") where
     pub number-1 : a ≡ true → Word.StreamDown ≡ numberWord word

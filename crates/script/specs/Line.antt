@@ -26,6 +26,7 @@ isWord word name = sameBytes word (ascii name)
 unfoldable pub otherWord : List ℕ → Word
 otherWord word =
     if isWord word "register-write" then Word.RegisterWrite
+    else if isWord word "collect" then Word.Collect
     else if isWord word "multicast" then Word.Multicast
     else if isWord word "firmware" then Word.Firmware
     else Word.Unknown
@@ -46,7 +47,7 @@ wordOf word =
     else if isWord word "streams" then Word.Streams
     else numberWord word
 
--- what follows it: bytes, at most so many; a number, at most a most; a FUNCTION_ID and a class; nothing; it is no word
+-- what follows it: bytes, at most so many; a number, at most a most; a FUNCTION_ID and a number, at most a most; nothing; it is no word
 abbrev pub followsOf : Word → Follows
 followsOf Word.Request = Follows.Bytes 512
 followsOf Word.Nonce = Follows.Bytes 64
@@ -56,7 +57,8 @@ followsOf Word.SessionEnd = Follows.Number 255
 followsOf Word.Session = Follows.Number 255
 followsOf Word.Ready = Follows.Number 1
 followsOf Word.ReplyLength = Follows.Number 512
-followsOf Word.RegisterWrite = Follows.IdAndClass
+followsOf Word.RegisterWrite = Follows.IdAndNumber 255
+followsOf Word.Collect = Follows.IdAndNumber 65535
 followsOf Word.Multicast = Follows.Nothing (Call.Happen Event.Multicast)
 followsOf Word.Firmware = Follows.Nothing Call.Firmware
 followsOf Word.Unknown = Follows.NoWord
@@ -65,30 +67,31 @@ followsOf Word.Unknown = Follows.NoWord
 abbrev pub limitOf : Follows → ℕ
 limitOf (Follows.Bytes most) = most
 limitOf (Follows.Number most) = most
-limitOf Follows.IdAndClass = 0
+limitOf (Follows.IdAndNumber most) = most
 limitOf (Follows.Nothing call) = 0
 limitOf Follows.NoWord = 0
 
 -- ---- what a line says
 
--- by its word and the number, or the number of bytes, after it
-abbrev pub saysOf : Word → ℕ → Line
-saysOf Word.Request n = Line.Do (Call.Request n)
-saysOf Word.Nonce n = Line.Set (Setting.Nonce n)
-saysOf Word.Streams n = Line.Set (Setting.Streams n)
-saysOf Word.StreamDown n = Line.Do (Call.Happen (Event.StreamDown (record { 0 = n })))
-saysOf Word.SessionEnd n = Line.Do (Call.Happen (Event.SessionEnd (record { 0 = n })))
-saysOf Word.Session n = Line.Set (Setting.Session n)
-saysOf Word.Ready n = Line.Set (Setting.Ready (eqb n 1))
-saysOf Word.ReplyLength n = Line.Set (Setting.ReplyLength n)
-saysOf Word.RegisterWrite n = Line.Bad Wrong.Word
-saysOf Word.Multicast n = Line.Bad Wrong.Word
-saysOf Word.Firmware n = Line.Bad Wrong.Word
-saysOf Word.Unknown n = Line.Bad Wrong.Word
+-- by its word, the FUNCTION_ID that it gives, 0 where it gives none, and the number, or the number of bytes
+abbrev pub saysOf : Word → ℕ → ℕ → Line
+saysOf Word.Request id n = Line.Do (Call.Request n)
+saysOf Word.Nonce id n = Line.Set (Setting.Nonce n)
+saysOf Word.Streams id n = Line.Set (Setting.Streams n)
+saysOf Word.StreamDown id n = Line.Do (Call.Happen (Event.StreamDown (record { 0 = n })))
+saysOf Word.SessionEnd id n = Line.Do (Call.Happen (Event.SessionEnd (record { 0 = n })))
+saysOf Word.Session id n = Line.Set (Setting.Session n)
+saysOf Word.Ready id n = Line.Set (Setting.Ready (eqb n 1))
+saysOf Word.ReplyLength id n = Line.Set (Setting.ReplyLength n)
+saysOf Word.RegisterWrite id n = Line.Do (Call.RegisterWrite id n)
+saysOf Word.Collect id n = Line.Do (Call.Collect id n)
+saysOf Word.Multicast id n = Line.Bad Wrong.Word
+saysOf Word.Firmware id n = Line.Bad Wrong.Word
+saysOf Word.Unknown id n = Line.Bad Wrong.Word
 
-abbrev pub saidOf : Word → Number → Line
-saidOf word (Number.Is n) = saysOf word n
-saidOf word (Number.Bad wrong) = Line.Bad wrong
+abbrev pub saidOf : Word → ℕ → Number → Line
+saidOf word id (Number.Is n) = saysOf word id n
+saidOf word id (Number.Bad wrong) = Line.Bad wrong
 
 -- a number, at most a most
 abbrev pub cappedTo : ℕ → Wrong → Number → Number
@@ -101,21 +104,17 @@ sizeOf most rest =
     if eqb (length rest) 0 then Number.Bad Wrong.Missing
     else cappedTo most Wrong.Large (spelled 10 65535 Wrong.DecimalDigit 0 rest)
 
--- a register write's FUNCTION_ID, and its class
-abbrev pub classedBy : ℕ → Number → Line
-classedBy id (Number.Is class) = Line.Do (Call.RegisterWrite id class)
-classedBy id (Number.Bad wrong) = Line.Bad wrong
+-- a FUNCTION_ID, a hex number, and a decimal number after it, at most a most
+abbrev pub identified : Word → ℕ → Number → List ℕ → Line
+identified word most (Number.Is id) rest = saidOf word id (sizeOf most rest)
+identified word most (Number.Bad wrong) rest = Line.Bad wrong
 
-abbrev pub writeBy : Number → List ℕ → Line
-writeBy (Number.Is id) class = classedBy id (sizeOf 255 class)
-writeBy (Number.Bad wrong) class = Line.Bad wrong
-
-unfoldable pub writeOf : List ℕ → Line
-writeOf rest =
+unfoldable pub idAndNumber : Word → ℕ → List ℕ → Line
+idAndNumber word most rest =
     let end = before isSpace rest in
     let next = end + before isNoSpace (drop end rest) in
     if eqb (length rest) 0 then Line.Bad Wrong.Missing
-    else writeBy (spelled 16 4294967295 Wrong.HexDigit 0 (take end rest)) (drop next rest)
+    else identified word most (spelled 16 4294967295 Wrong.HexDigit 0 (take end rest)) (drop next rest)
 
 -- a word that stands alone
 abbrev pub aloneOf : Call → List ℕ → Line
@@ -129,11 +128,11 @@ pub record Reading : Type 0 where
 
 abbrev pub followedBy : Follows → Word → List ℕ → List ℕ → Reading
 followedBy (Follows.Bytes most) word rest out = record {
-  line = saidOf word (cappedTo most Wrong.Long (hexBytes rest out .number));
+  line = saidOf word 0 (cappedTo most Wrong.Long (hexBytes rest out .number));
   out = hexBytes rest out .out;
 }
-followedBy (Follows.Number most) word rest out = record { line = saidOf word (sizeOf most rest); out = out }
-followedBy Follows.IdAndClass word rest out = record { line = writeOf rest; out = out }
+followedBy (Follows.Number most) word rest out = record { line = saidOf word 0 (sizeOf most rest); out = out }
+followedBy (Follows.IdAndNumber most) word rest out = record { line = idAndNumber word most rest; out = out }
 followedBy (Follows.Nothing call) word rest out = record { line = aloneOf call rest; out = out }
 followedBy Follows.NoWord word rest out = record { line = Line.Bad Wrong.Word; out = out }
 

@@ -17,7 +17,7 @@ use rules::Stream;
 ghost use mathlib.Core.Path.{_≡_};
 ghost use Prim.Native.Nat.{_≤_};
 ghost use Rattle.script.specs.Digits.{hexBytes, Within};
-ghost use Rattle.script.specs.Line.{followsOf, limitOf, saysOf, saidOf, cappedTo, sizeOf, classedBy, writeBy, writeOf, aloneOf, lineBy, wordsOf, lineOf, Reads};
+ghost use Rattle.script.specs.Line.{followsOf, limitOf, saysOf, saidOf, cappedTo, sizeOf, identified, idAndNumber, aloneOf, lineBy, wordsOf, lineOf, Reads};
 ghost use Rattle.script.specs.Text.{trim};
 ghost use Rattle.script.specs.declared.digits.Wrong.the-variants.{Long};
 
@@ -28,6 +28,7 @@ const MOST_LINE: usize = 1024;
 pub enum Call {
     Request(usize),
     RegisterWrite(u32, u8),
+    Collect(u32, u16),
     Happen(Event),
     Firmware,
 }
@@ -74,10 +75,10 @@ fn bytes(rest: &[u8], out: &mut [u8; 512], most: usize) -> Number
     capped(n, most, Wrong::Long)
 }
 
-// What a line says, by its word and the number, or the number of bytes, after it.
-fn says(word: Word, n: usize) -> Line
+// What a line says, by its word, the FUNCTION_ID that it gives, 0 where it gives none, and the number, or the number of bytes.
+fn says(word: Word, id: u32, n: usize) -> Line
     requires { ⌜ n ≤ limitOf (followsOf word) ⌝ }
-    ensures { λ r. ⌜ r ≡ saysOf word n ⌝ }
+    ensures { λ r. ⌜ r ≡ saysOf word id n ⌝ }
 {
     match word {
         Word::Request => Line::Do(Call::Request(n)),
@@ -88,7 +89,8 @@ fn says(word: Word, n: usize) -> Line
         Word::Session => Line::Set(Setting::Session(n as u8)),
         Word::Ready => Line::Set(Setting::Ready(n == 1)),
         Word::ReplyLength => Line::Set(Setting::ReplyLength(n)),
-        Word::RegisterWrite => Line::Bad(Wrong::Word),
+        Word::RegisterWrite => Line::Do(Call::RegisterWrite(id, n as u8)),
+        Word::Collect => Line::Do(Call::Collect(id, n as u16)),
         Word::Multicast => Line::Bad(Wrong::Word),
         Word::Firmware => Line::Bad(Wrong::Word),
         Word::Unknown => Line::Bad(Wrong::Word),
@@ -96,41 +98,31 @@ fn says(word: Word, n: usize) -> Line
 }
 
 // The same, or what is wrong with the number.
-fn said(word: Word, number: Number) -> Line
+fn said(word: Word, id: u32, number: Number) -> Line
     requires { ⌜ Within (limitOf (followsOf word)) number ⌝ }
-    ensures { λ r. ⌜ r ≡ saidOf word number ⌝ }
+    ensures { λ r. ⌜ r ≡ saidOf word id number ⌝ }
 {
     match number {
         Number::Bad(wrong) => Line::Bad(wrong),
-        Number::Is(n) => says(word, n),
+        Number::Is(n) => says(word, id, n),
     }
 }
 
-// A register write of a FUNCTION_ID; the class.
-fn write_class(id: usize, class: &[u8]) -> Line
-    requires { ⌜ id ≤ 4294967295 ⌝ }
-    ensures { λ r. ⌜ r ≡ classedBy id (sizeOf 255 (now (class .entry))) ⌝ }
-{
-    match size(class, 255) {
-        Number::Bad(wrong) => Line::Bad(wrong),
-        Number::Is(n) => Line::Do(Call::RegisterWrite(id as u32, n as u8)),
-    }
-}
-
-// FUNCTION_ID, a hex number, and the class after it.
-fn write_by(id: Number, class: &[u8]) -> Line
-    requires { ⌜ Within 4294967295 id ⌝ }
-    ensures { λ r. ⌜ r ≡ writeBy id (now (class .entry)) ⌝ }
+// By a word's FUNCTION_ID and what follows it: a decimal number.
+fn with_id(word: Word, id: Number, rest: &[u8], most: usize) -> Line
+    requires { ⌜ Within 4294967295 id × (most ≡ limitOf (followsOf word)) ⌝ }
+    ensures { λ r. ⌜ r ≡ identified word most id (now (rest .entry)) ⌝ }
 {
     match id {
         Number::Bad(wrong) => Line::Bad(wrong),
-        Number::Is(n) => write_class(n, class),
+        Number::Is(n) => said(word, n as u32, size(rest, most)),
     }
 }
 
-// register-write ID CLASS
-fn register_write(rest: &[u8]) -> Line
-    ensures { λ r. ⌜ r ≡ writeOf (now (rest .entry)) ⌝ }
+// A FUNCTION_ID, a hex number, and a decimal number after it, at most a most.
+fn id_and_number(word: Word, rest: &[u8], most: usize) -> Line
+    requires { ⌜ most ≡ limitOf (followsOf word) ⌝ }
+    ensures { λ r. ⌜ r ≡ idAndNumber word most (now (rest .entry)) ⌝ }
 {
     if rest.len() == 0 {
         return Line::Bad(Wrong::Missing);
@@ -139,7 +131,7 @@ fn register_write(rest: &[u8]) -> Line
     let end = first(rest, start, true);
     let next = first(rest, end, false);
     let id = spelled(&rest[start..end], 16, 4294967295, Wrong::HexDigit);
-    write_by(id, &rest[next..])
+    with_id(word, id, &rest[next..], most)
 }
 
 // A word that stands alone.
@@ -157,9 +149,9 @@ fn by_word(word: Word, rest: &[u8], out: &mut [u8; 512]) -> Line
     ensures { λ r. ⌜ Reads (lineBy word (now (rest .entry)) (now (out .entry))) r (now (out .exit)) ⌝ }
 {
     match follows_after(word) {
-        Follows::Bytes(most) => said(word, bytes(rest, out, most)),
-        Follows::Number(most) => said(word, size(rest, most)),
-        Follows::IdAndClass => register_write(rest),
+        Follows::Bytes(most) => said(word, 0, bytes(rest, out, most)),
+        Follows::Number(most) => said(word, 0, size(rest, most)),
+        Follows::IdAndNumber(most) => id_and_number(word, rest, most),
         Follows::Nothing(call) => alone(call, rest),
         Follows::NoWord => Line::Bad(Wrong::Word),
     }

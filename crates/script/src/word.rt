@@ -26,6 +26,8 @@ const REPLY_LENGTH: [u8; 14] = *b"reply-length  ";
 
 const REGISTER_WRITE: [u8; 14] = *b"register-write";
 
+const COLLECT: [u8; 14] = *b"collect       ";
+
 const MULTICAST: [u8; 14] = *b"multicast     ";
 
 const FIRMWARE: [u8; 14] = *b"firmware      ";
@@ -41,26 +43,30 @@ pub(crate) enum Word {
     Ready,
     ReplyLength,
     RegisterWrite,
+    Collect,
     Multicast,
     Firmware,
     Unknown,
 }
 
-// What follows a word: bytes, at most so many; a number, at most a most; a FUNCTION_ID and a class; nothing; it is no word.
+// What follows a word: bytes, at most so many; a number, at most a most; a FUNCTION_ID and a number, at most a most; nothing; it is no word.
 pub(crate) enum Follows {
     Bytes(usize),
     Number(usize),
-    IdAndClass,
+    IdAndNumber(usize),
     Nothing(Call),
     NoWord,
 }
 
-// Words that no number follows.
+// Words that a FUNCTION_ID follows, or nothing.
 fn other_word(word: &[u8]) -> Word
     ensures { λ r. ⌜ r ≡ otherWord (now (word .entry)) ⌝ }
 {
     if is(word, REGISTER_WRITE) {
         return Word::RegisterWrite;
+    }
+    if is(word, COLLECT) {
+        return Word::Collect;
     }
     if is(word, MULTICAST) {
         return Word::Multicast;
@@ -122,7 +128,8 @@ pub(crate) fn follows_after(word: Word) -> Follows
         Word::Session => Follows::Number(255),
         Word::Ready => Follows::Number(1),
         Word::ReplyLength => Follows::Number(MOST_MESSAGE),
-        Word::RegisterWrite => Follows::IdAndClass,
+        Word::RegisterWrite => Follows::IdAndNumber(255),
+        Word::Collect => Follows::IdAndNumber(65535),
         Word::Multicast => Follows::Nothing(Call::Happen(Event::Multicast)),
         Word::Firmware => Follows::Nothing(Call::Firmware),
         Word::Unknown => Follows::NoWord,

@@ -1,6 +1,6 @@
 -- `by_word` meets its contract. Assumes nothing.
 use borrow.Author.Needs.{needs}
-use Rattle.script.proofs.Lines.{within-bytes, within-number, bytes-follow, number-follows, id-follows, nothing-follows, no-word}
+use Rattle.script.proofs.Lines.{within-bytes, within-number, limit-is, bytes-follow, number-follows, id-follows, nothing-follows, no-word}
 use Rattle.script.proofs.line.by_word.Statement.{statement}
 use Rattle.script.proofs.line.by_word.Tie as tie
 
@@ -16,7 +16,7 @@ by-word-spec =
     (λ c κs. search needs)
     (λ c κs. search within-number)
     (λ c. search needs)
-    (λ c κs. search needs)
+    (λ c κs. search limit-is)
     (λ c. search needs)
     (λ c κs. search needs)
     (λ c. search needs)

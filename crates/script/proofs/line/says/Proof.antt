@@ -1,4 +1,4 @@
--- `says` meets its contract: a number of one byte is at most 255. Assumes nothing.
+-- `says` meets its contract: a number of one byte is at most 255, one of two at most 65,535. Assumes nothing.
 use native.Mathlib.Omega.{arith}
 use borrow.Author.Needs.{needs}
 use Rattle.script.specs.declared.word.Word.{Word}
@@ -22,9 +22,13 @@ says-spec =
     (λ c. search needs)
     (λ c. search needs)
     (λ c. search needs)
+    (λ c. omega (arith, limit-by _ Word.RegisterWrite _ (c .enum-told9 .given .1) (c .before .before .pre)))
+    (λ c. search needs)
+    (λ c. omega (arith, limit-by _ Word.Collect _ (c .enum-told10 .given .1) (c .before .before .pre)))
     (λ c. search needs)
     (λ c. search needs)
     (λ c. search needs)
+    (λ c. search says-by)
     (λ c. search says-by)
     (λ c. search says-by)
     (λ c. search says-by)

@@ -29,6 +29,8 @@ follows-after-spec =
     (λ c. search needs)
     (λ c. search needs)
     (λ c. search needs)
+    (λ c. search needs)
+    (λ c. search needs)
     (λ c. search follows-by)
     (λ c. search follows-by)
     (λ c. search needs))
