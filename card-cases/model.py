@@ -27,6 +27,7 @@ REFUSALS = {
     5: "request under 16 bytes", 6: "stream map or nonce not 32 bytes", 7: "no record's interface",
 }
 PAGES_END = 2**52
+MOST_REPORT = 200
 
 
 def num(s, at, n):
@@ -165,6 +166,30 @@ def respond(card, q, s):
     return reply(7)
 
 
+class Collector:
+    """02, 2/12: the bytes held so far, for an interface; `total` is that of the first reply taken."""
+
+    def __init__(self, i):
+        self.i, self.held, self.total = i, b"", None
+
+    def take(self, reply):
+        """Takes a reply; the name by which it is refused, or None."""
+        if len(reply) < 20 or reply[0] != 0x10 or reply[1] != 0x04:
+            return "not a report reply"
+        if identity(num(reply, 4, 4)) != identity(self.i):
+            return "other interface"
+        portion, remainder = num(reply, 16, 2), num(reply, 18, 2)
+        if len(reply) != 20 + portion:
+            return "length not as the portion says"
+        total = len(self.held) + portion + remainder
+        if self.total not in (None, total):
+            return "total different from before"
+        if total > MOST_REPORT:
+            return "total over 200"
+        self.held, self.total = self.held + reply[20:], total
+        return None
+
+
 def move(records):
     moved = [r for r in records if r[4] in (1, 2)]
     for r in moved:
@@ -214,6 +239,42 @@ def fields(s):
     return out
 
 
+def report_fields(s):
+    """A whole report, by 01's "Report"; names by 001's Table 11-15."""
+
+    def inner(name, at, n):
+        return "%s%s = %0*xh" % (name, hexes(s[at : at + n]), 2 * n, num(s, at, n))
+
+    out = "  report, %d bytes:%s\n" % (len(s), hexes(s))
+    out += field("INTERFACE_INFO", s, 0, 2, True) + field("reserved", s, 2, 4) + field("MSI_X_MESSAGE_CONTROL", s, 4, 6, True)
+    out += field("LNR_CONTROL", s, 6, 8, True) + field("TPH_CONTROL", s, 8, 12, True) + field("MMIO_RANGE_COUNT", s, 12, 16, True)
+    at = 16
+    for k in range(num(s, 12, 4)):
+        parts = inner("first page", at, 8), inner("pages", at + 8, 4), inner("attributes", at + 12, 2), inner("range ID", at + 14, 2)
+        out += "    MMIO_RANGE %d, low byte first: %s\n" % (k, ", ".join(parts))
+        at += 16
+    return out + field("DEVICE_SPECIFIC_INFO_LEN", s, at, at + 4, True) + field("DEVICE_SPECIFIC_INFO", s, at + 4, len(s))
+
+
+def collect(card, s, i, length):
+    """The report of an interface in portions; what is printed of it."""
+    c, out = Collector(i), "collect %04xh LENGTH %d\n" % (i, length)
+    while c.total != len(c.held):
+        offset = len(c.held)
+        q = b"\x10\x84\0\0" + i.to_bytes(4, "little") + bytes(8) + offset.to_bytes(2, "little") + length.to_bytes(2, "little")
+        number, reply = respond(card, q, s)
+        out += "  OFFSET %d: " % offset
+        if number:
+            return out + "no reply\n" + told(number, "length 0") + states(card)
+        why = c.take(reply)
+        if why:
+            return out + "refused by the collector: %s\n" % why + told(0, "length %d" % len(reply)) + fields(reply) + states(card)
+        out += "portion %d, remainder %d\n" % (len(c.held) - offset, c.total - len(c.held))
+        if len(c.held) == offset:
+            return out + "  nothing moved, so no more is asked\n" + states(card)
+    return out + report_fields(c.held) + states(card)
+
+
 def states(card):
     def one(r):
         return " %04xh %s;" % (num(r, 0, 4), STATES[r[4]] if r[4] < 4 else "no state: %d" % r[4])
@@ -233,6 +294,8 @@ def call(card, s, kind, *given):
         name = REQUESTS[q[1]][0] if len(q) > 1 and q[1] in REQUESTS else "of an unlisted type"
         out = "request %s%d bytes:%s\n" % (name + ", " if len(q) > 1 else "", len(q), hexes(q))
         return out + told(number, "length %d" % len(reply)) + (fields(reply) if reply else "") + states(card)
+    if kind == "collect":
+        return collect(card, s, *given)
     number, moved = card.judge(), 0
     if kind == "firmware":
         yes = not number and not any(r[4] in (1, 2) and num(r, 6, 2) & 1 for r in card.records())
@@ -304,12 +367,13 @@ def parse(line):
     most = {"request": 512, "nonce": 64, "streams": 64}
     if word in most:
         return word, hex_bytes(rest, most[word])
-    if word == "register-write":
+    most = {"register-write": 255, "collect": 65535}
+    if word in most:
         if not rest:
             raise Bad("something is missing")
         cut = min((rest + " ").find(c) for c in " \t\r" if c in rest + " ")
         i = function_id(rest[:cut])
-        return word, i, number_of(rest[cut:].lstrip(" \t\r"), 255)
+        return word, i, number_of(rest[cut:].lstrip(" \t\r"), most[word])
     if word in ("multicast", "firmware"):
         if rest:
             raise Bad("something stands after it")
@@ -358,7 +422,7 @@ def demo():
 
     out = "the card\n" + states(card) + ask(0x81) + ask(0x82, bytes(4))
     out += ask(0x83, b"\x05\0\x03\0" + (-65536).to_bytes(8, "little", signed=True) + bytes(8))
-    out += ask(0x84, b"\0\0\xff\xff") + ask(0x84, b"\x80\0\xff\xff")
+    out += ask(0x84, b"\0\0\xff\xff") + ask(0x84, b"\x80\0\xff\xff") + call(card, s, "collect", 0x100, 64)
     out += ask(0x86, bytes(range(1, 33))) + ask(0x86, bytes(range(32)))
     return out + call(card, s, "stream-down", 3) + ask(0x85) + ask(0x87)
 

@@ -4,8 +4,9 @@ use show::say::say;
 use show::states;
 use wire::copy::copy_over;
 
-// The calls: every kind of request, a start with a wrong nonce among them, and a stream that goes down. The flags are NO_FW_UPDATE and LOCK_MSIX.
-const SCRIPT: [u8; 859] =
+// The calls: every kind of request, a start with a wrong nonce among them, a report collected, and a stream that goes down. The flags are
+// NO_FW_UPDATE and LOCK_MSIX.
+const SCRIPT: [u8; 874] =
     *b"nonce 000102030405060708090a0b0c0d0e0f101112131415161718191a1b1c1d1e1f\n\
     ready 1\n\
     streams 0800000000000000000000000000000000000000000000000000000000000000 # stream 3 is secure\n\
@@ -15,6 +16,7 @@ const SCRIPT: [u8; 859] =
     request 10 83 0000 00010000 0000000000000000 0500 03 00 0000ffffffffffff 0000000000000000 # two flags, stream 3, offset -65536\n\
     request 10 84 0000 00010000 0000000000000000 0000 ffff\n\
     request 10 84 0000 00010000 0000000000000000 8000 ffff\n\
+    collect 100 64\n\
     request 10 86 0000 00010000 0000000000000000 0102030405060708090a0b0c0d0e0f101112131415161718191a1b1c1d1e1f20 # a wrong nonce\n\
     request 10 86 0000 00010000 0000000000000000 000102030405060708090a0b0c0d0e0f101112131415161718191a1b1c1d1e1f\n\
     stream-down 3\n\
@@ -62,7 +64,7 @@ fn calls(table: &mut [u8; 768]) {
     run(&script, table);
 }
 
-// Every kind of request, and a stream that goes down.
+// Every kind of request, a report collected, and a stream that goes down.
 pub(crate) fn show() {
     let mut table = card();
     before(&table);
