@@ -6,15 +6,16 @@ use Prim.Native.Nat.{ℕ, _-_, _≤_, min}
 use native.Mathlib.Omega.{arith}
 use lib.ListN.{length, take, drop}
 use Rattle.rules.specs.Bytes.{if_then_else_, bytesOf, blank, over}
-use Rattle.rules.specs.Call.{step}
-use Rattle.rules.specs.Collector.{Collection, fresh, portionVerdict, isTaken, grown, collected}
+use Rattle.rules.specs.Call.{answerValue, step}
+use Rattle.rules.specs.Collector.{Collection, fresh, nextOffset, portionVerdict, isTaken, grown, collected}
 use Rattle.rules.specs.Report.{mostReport}
 use Rattle.rules.specs.Request.{kindOf}
+use Rattle.rules.specs.declared.Answer.{Answer}
 use Rattle.rules.specs.declared.PortionVerdict.{PortionVerdict}
 use Rattle.rules.proofs.Collections.{takes}
 use Rattle.rules.proofs.ServedCall.{report-leaves}
 use Rattle.script.specs.declared.settings.Settings.{Settings}
-use Rattle.calls.specs.Made.{requestBy, reportRequest}
+use Rattle.calls.specs.Made.{requestBy, Gets, reportRequest, replyOf, askedOnce}
 use Rattle.calls.proofs.Making.{front}
 
 -- the fields, written one after the other over zeros
@@ -23,9 +24,18 @@ pub is-request : (id offset asked : ℕ) (a b r : List ℕ) → a ≡ over 4 (by
 unfolding over bytesOf
 is-request id offset asked a b r e f g = g ∙ rw (f, e)
 
--- it leaves the table
-pub table-stays : (q t t′ : List ℕ) (id offset asked : ℕ) (s : Settings) → q ≡ reportRequest id offset asked → t′ ≡ step (requestBy q s) t .table → t′ ≡ t
-table-stays q t t′ id offset asked s e f = f ∙ report-leaves _ t (ap kindOf e)
+-- one ask, by a request q
+module _ (q buffer t t′ : List ℕ) (s : Settings) (r : Answer) (g : Gets (step (requestBy q s) t) r buffer t′) where
+  -- leaves the table
+  pub table-stays : (id offset asked : ℕ) → q ≡ reportRequest id offset asked → t′ ≡ t
+  table-stays id offset asked e = g .table-is ∙ report-leaves _ t (ap kindOf e)
+
+  -- and gives the collector its reply
+  pub asked-once : (c d : Collection) (offset asked n : ℕ) → offset ≡ nextOffset c → q ≡ reportRequest (c .id) offset asked → n ≡ answerValue r
+      → d ≡ collected c (take n buffer) → d ≡ askedOnce c asked s t
+  asked-once c d offset asked n o e f h =
+      h ∙ ap (collected c) (rw (f, g .value-is, g .buffer-is))
+      ∙ ap (λ (p : List ℕ). collected c (replyOf (step (requestBy p s) t))) (e ∙ ap (λ (k : ℕ). reportRequest (c .id) k asked) o)
 
 -- the reply at the front of a buffer
 module _ (c : Collection) (buffer : List ℕ) (n end : ℕ) (e : end ≡ min n (length buffer)) where

@@ -1,11 +1,14 @@
 -- A line of a script, run: its call by the step of rules, the settings and the table after it. Assumes nothing.
 use mathlib.Core.Bool.{Bool, true, false}
 use mathlib.Core.List.{List, [], _∷_, _++_}
+use mathlib.Core.Path.{_≡_}
 use Prim.Native.Nat.{ℕ}
 use lib.ListN.{take}
-use Rattle.rules.specs.Bytes.{bytesOf, blank}
+use Rattle.rules.specs.Bytes.{bytesOf, blank, over}
 use Rattle.rules.specs.Call as rules
+use Rattle.rules.specs.Collector.{Collection, nextOffset, collected}
 use Rattle.rules.specs.Request.{Lent, lent}
+use Rattle.rules.specs.declared.Answer.{Answer}
 use Rattle.script.specs.Line.{Reading}
 use Rattle.script.specs.Settings.{setBy}
 use Rattle.script.specs.declared.line.Call.{Call}
@@ -21,9 +24,28 @@ lentBy request reply s =
 abbrev pub requestBy : List ℕ → Settings → rules.Call
 requestBy request s = rules.Request (lentBy request (take (s .«reply_bytes») (blank 512)) s)
 
+-- what a function that makes a request returns and leaves: the reply buffer stands at the front of 512 bytes, of which the rest stays blank
+pub record Gets (o : rules.Outcome) (r : Answer) (buffer table : List ℕ) : Type 0 where
+  pub number-is : rules.answerNumber r ≡ o .number
+  pub value-is : rules.answerValue r ≡ o .value
+  pub buffer-is : buffer ≡ over 0 (o .reply) (blank 512)
+  pub table-is : table ≡ o .table
+
+-- ---- a report, collected
+
 -- GET_DEVICE_INTERFACE_REPORT: the header, OFFSET, LENGTH
 abbrev pub reportRequest : ℕ → ℕ → ℕ → List ℕ
 reportRequest id offset asked = (0x10 ∷ 0x84 ∷ 0 ∷ 0 ∷ []) ++ bytesOf 4 id ++ blank 8 ++ bytesOf 2 offset ++ bytesOf 2 asked
+
+-- the reply to a request: as many of those bytes as the length says
+abbrev pub replyOf : rules.Outcome → List ℕ
+replyOf o = take (o .value) (over 0 (o .reply) (blank 512))
+
+-- a collector after one ask, at the OFFSET that it names
+abbrev pub askedOnce : Collection → ℕ → Settings → List ℕ → Collection
+askedOnce c asked s t = collected c (replyOf (rules.step (requestBy (reportRequest (c .id) (nextOffset c) asked) s) t))
+
+-- ---- a call
 
 -- the table that a call leaves: what step gives. A request's bytes are the first of those beside it. A collect asks for a report in any number of
 -- requests, each of which leaves the table.

@@ -20,7 +20,7 @@ ghost use lib.ListN.{take};
 ghost use Rattle.rules.specs.Collector.{portionVerdict, collected};
 ghost use Rattle.rules.specs.Report.{mostReport};
 ghost use Rattle.collector.specs.Kept.{kept};
-ghost use Rattle.calls.specs.Made.{reportRequest};
+ghost use Rattle.calls.specs.Made.{reportRequest, askedOnce};
 
 // GET_DEVICE_INTERFACE_REPORT for an interface: at most LENGTH bytes from an OFFSET on.
 fn report_request(function_id: u32, offset: u16, length: u16) -> [u8; 20]
@@ -47,7 +47,7 @@ fn give(c: Collector, buffer: &[u8], n: usize) -> TakenReply
 // One ask, at the OFFSET that the collector names; the collector afterwards.
 fn ask(c: Collector, length: u16, s: Settings, table: &mut [u8]) -> Collector
     requires { ⌜ c .held ≤ mostReport ⌝ }
-    ensures { λ r. ⌜ (r .held ≤ mostReport) × (now (table .exit) ≡ now (table .entry)) ⌝ }
+    ensures { λ r. ⌜ (kept r ≡ askedOnce (kept c) length s (now (table .entry))) × (now (table .exit) ≡ now (table .entry)) ⌝ }
 {
     let offset = c.next_offset() as u16;
     let request = report_request(c.function_id, offset, length);

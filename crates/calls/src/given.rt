@@ -4,11 +4,10 @@ use rules::Answer;
 use script::settings::MOST_MESSAGE;
 use script::settings::Settings;
 use wire::copy::least;
-ghost use mathlib.Core.Path.{_≡_};
 ghost use lib.ListN.{take};
 ghost use Rattle.rules.specs.Call.{Request, step, Gives};
 ghost use Rattle.rules.specs.Request.{lent};
-ghost use Rattle.calls.specs.Made.{lentBy, requestBy};
+ghost use Rattle.calls.specs.Made.{lentBy, requestBy, Gets};
 
 // A request's answer, and the buffer with the reply at its front.
 pub(crate) struct Replied {
@@ -54,7 +53,7 @@ fn respond_by(request: &[u8], reply: &mut [u8], table: &mut [u8], s: Settings) -
 
 // The responder, given a blank reply buffer of the length that is set.
 pub(crate) fn reply_to(request: &[u8], s: Settings, table: &mut [u8]) -> Replied
-    ensures { λ _. ⌜ now (table .exit) ≡ step (requestBy (now (request .entry)) s) (now (table .entry)) .table ⌝ }
+    ensures { λ r. ⌜ Gets (step (requestBy (now (request .entry)) s) (now (table .entry))) (r .answer) (r .buffer) (now (table .exit)) ⌝ }
 {
     let mut buffer = [0u8; MOST_MESSAGE];
     let first = 0;

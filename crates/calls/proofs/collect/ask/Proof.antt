@@ -1,6 +1,6 @@
--- `ask` meets its contract: a report asked for leaves the table, and 200 bytes at most are held. Assumes nothing.
+-- `ask` meets its contract: the collector has the reply, and a report asked for leaves the table. Assumes nothing.
 use borrow.Author.Needs.{needs}
-use Rattle.calls.proofs.Collecting.{table-stays, holds-most}
+use Rattle.calls.proofs.Collecting.{table-stays, asked-once}
 use Rattle.calls.proofs.collect.ask.Statement.{statement}
 use Rattle.calls.proofs.collect.ask.Tie as tie
 
@@ -18,4 +18,4 @@ ask-spec =
     (λ c κs. search needs)
     (λ c κs. search needs)
     (λ c. search needs)
-    (λ c. (search holds-most, search table-stays)))
+    (λ c. (search asked-once, search table-stays)))

@@ -4,7 +4,7 @@ use Prim.Native.Nat.{_≤_, _-_}
 use lib.ListN.{length}
 use borrow.Author.Needs.{needs}
 use Rattle.rules.specs.Report.{mostReport}
-use Rattle.calls.proofs.Collecting.{starts-empty}
+use Rattle.calls.proofs.Collecting.{holds-most, starts-empty}
 use Rattle.calls.proofs.collect.ask_all.Statement.{statement}
 use Rattle.calls.proofs.collect.ask_all.Tie as tie
 
@@ -26,10 +26,13 @@ returns-2 c =
 -- and after one that is not
 loop-again : tie.Need-loop-again Inv-loop μ-loop
 loop-again c = (
-  search needs,
+  search holds-most,
   c .before .before .before .before .before .before .ask .ensures .1
       ∙ c .before .before .before .before .before .before .before .before .loop .inv .1,
 )
+
+loop-less : tie.Need-loop-less Inv-loop μ-loop
+loop-less c = let h : c .before .before .before .before .before .before .ask .result .held ≤ mostReport = search holds-most in search needs
 
 pub ask-all-spec : {M : Type 1} → statement M
 ask-all-spec =
@@ -45,5 +48,5 @@ ask-all-spec =
     (λ c κs. search needs)
     (λ c. ap length (returns-2 c))
     returns-2
-    (λ c. search needs)
+    loop-less
     loop-again)
