@@ -1,13 +1,13 @@
 -- A report, collected: the request, the table after it, and what the collector holds. Assumes nothing.
 use mathlib.Core.Bool.{Bool, true, false}
 use mathlib.Core.List.{List, _∷_}
-use mathlib.Core.Path.{_≡_, refl, ap, _∙_}
-use Prim.Native.Nat.{ℕ, _-_, _≤_, min}
+use mathlib.Core.Path.{_≡_, refl, sym, ap, _∙_}
+use Prim.Native.Nat.{ℕ, _-_, _≤_, _<_, min}
 use native.Mathlib.Omega.{arith}
 use lib.ListN.{length, take, drop}
 use Rattle.rules.specs.Bytes.{if_then_else_, bytesOf, blank, over}
 use Rattle.rules.specs.Call.{answerValue, step}
-use Rattle.rules.specs.Collector.{Collection, fresh, nextOffset, portionVerdict, isTaken, grown, collected}
+use Rattle.rules.specs.Collector.{Collection, fresh, nextOffset, finished, portionVerdict, isTaken, grown, collected}
 use Rattle.rules.specs.Report.{mostReport}
 use Rattle.rules.specs.Request.{kindOf}
 use Rattle.rules.specs.declared.Answer.{Answer}
@@ -15,7 +15,7 @@ use Rattle.rules.specs.declared.PortionVerdict.{PortionVerdict}
 use Rattle.rules.proofs.Collections.{takes}
 use Rattle.rules.proofs.ServedCall.{report-leaves}
 use Rattle.script.specs.declared.settings.Settings.{Settings}
-use Rattle.calls.specs.Made.{requestBy, Gets, reportRequest, replyOf, askedOnce}
+use Rattle.calls.specs.Made.{requestBy, Gets, reportRequest, replyOf, askedOnce, Asks, stops, ends, goes-on}
 use Rattle.calls.proofs.Making.{front}
 
 -- the fields, written one after the other over zeros
@@ -63,3 +63,26 @@ holds-most c p id bytes held begun total e h = let same : held ≡ collected c p
 pub starts-empty : (of id : ℕ) (bytes : List ℕ) (held : ℕ) (begun : Bool) (total : ℕ)
     → _≡_ {A = Collection} (record { id = id; bytes = bytes; held = held; begun = begun; total = total }) (fresh of) → held ≤ mostReport
 starts-empty of id bytes held begun total e = let none : held ≡ 0 = ap (λ (d : Collection). d .held) e in omega arith
+
+-- ---- ask after ask
+
+module _ (asked : ℕ) (s : Settings) (t : List ℕ) where
+  -- what is asked from c on answers for all that was asked from a on
+  abbrev pub Left : Collection → Collection → Type 0
+  Left a c = (d : Collection) → Asks asked s t c d → Asks asked s t a d
+
+  pub at-first : (a c : Collection) → c ≡ a → Left a c
+  at-first a c e d f = rw e at f
+
+  module _ (u : List ℕ) (a c d : Collection) (same : u ≡ t) (left : Left a c) (e : d ≡ askedOnce c asked s u) where
+    once : d ≡ askedOnce c asked s t
+    once = e ∙ ap (askedOnce c asked s) same
+
+    pub stood : d .held ≤ c .held → Asks asked s t a d
+    stood h = left d (stops once h)
+
+    pub ended : (b : Bool) → b ≡ finished d → b ≡ true → Asks asked s t a d
+    ended b f h = left d (ends once (sym f ∙ h))
+
+    pub went-on : c .held < d .held → (b : Bool) → b ≡ finished d → b ≡ false → Left a d
+    went-on g b f h x y = left x (goes-on once g (sym f ∙ h) y)

@@ -2,11 +2,11 @@
 use mathlib.Core.Bool.{Bool, true, false}
 use mathlib.Core.List.{List, [], _∷_, _++_}
 use mathlib.Core.Path.{_≡_}
-use Prim.Native.Nat.{ℕ}
+use Prim.Native.Nat.{ℕ, _≤_, _<_}
 use lib.ListN.{take}
 use Rattle.rules.specs.Bytes.{bytesOf, blank, over}
 use Rattle.rules.specs.Call as rules
-use Rattle.rules.specs.Collector.{Collection, nextOffset, collected}
+use Rattle.rules.specs.Collector.{Collection, nextOffset, finished, collected}
 use Rattle.rules.specs.Request.{Lent, lent}
 use Rattle.rules.specs.declared.Answer.{Answer}
 use Rattle.script.specs.Line.{Reading}
@@ -44,6 +44,12 @@ replyOf o = take (o .value) (over 0 (o .reply) (blank 512))
 -- a collector after one ask, at the OFFSET that it names
 abbrev pub askedOnce : Collection → ℕ → Settings → List ℕ → Collection
 askedOnce c asked s t = collected c (replyOf (rules.step (requestBy (reportRequest (c .id) (nextOffset c) asked) s) t))
+
+-- asked at one OFFSET after the other, up to an ask that moves nothing or that finishes it
+pub data Asks (asked : ℕ) (s : Settings) (t : List ℕ) : Collection → Collection → Type 0 where
+  stops : {c d : Collection} → d ≡ askedOnce c asked s t → d .held ≤ c .held → Asks asked s t c d
+  ends : {c d : Collection} → d ≡ askedOnce c asked s t → finished d ≡ true → Asks asked s t c d
+  goes-on : {c d e : Collection} → d ≡ askedOnce c asked s t → c .held < d .held → finished d ≡ false → Asks asked s t d e → Asks asked s t c e
 
 -- ---- a call
 

@@ -17,10 +17,10 @@ use wire::number::put32;
 ghost use mathlib.Core.Path.{_≡_};
 ghost use Prim.Native.Nat.{_≤_};
 ghost use lib.ListN.{take};
-ghost use Rattle.rules.specs.Collector.{portionVerdict, collected};
+ghost use Rattle.rules.specs.Collector.{fresh, portionVerdict, collected};
 ghost use Rattle.rules.specs.Report.{mostReport};
 ghost use Rattle.collector.specs.Kept.{kept};
-ghost use Rattle.calls.specs.Made.{reportRequest, askedOnce};
+ghost use Rattle.calls.specs.Made.{reportRequest, askedOnce, Asks};
 
 // GET_DEVICE_INTERFACE_REPORT for an interface: at most LENGTH bytes from an OFFSET on.
 fn report_request(function_id: u32, offset: u16, length: u16) -> [u8; 20]
@@ -62,7 +62,7 @@ fn ask(c: Collector, length: u16, s: Settings, table: &mut [u8]) -> Collector
 
 // Asks until the report is all there or an ask moves nothing. Any other makes what is held grow, up to 200, so that there is an end.
 fn ask_all(function_id: u32, length: u16, s: Settings, table: &mut [u8]) -> Collector
-    ensures { λ _. ⌜ now (table .exit) ≡ now (table .entry) ⌝ }
+    ensures { λ r. ⌜ Asks length s (now (table .entry)) (fresh «function_id») (kept r) × (now (table .exit) ≡ now (table .entry)) ⌝ }
 {
     let mut c = Collector::new(function_id);
     loop {
