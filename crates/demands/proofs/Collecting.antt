@@ -8,9 +8,9 @@ use native.Mathlib.Omega.{arith}
 use borrow.Author.Tests.{eqb-true, leb-true, leb-false, le-ltb, lt-ltb}
 use lib.Dec.{eqb, leb, ltb}
 use lib.ListN.{length, take, drop, length-append, length-drop, length-replicate, drop-of-length-le}
-use lib.Seq.{length-take-le, drop-at, drop-drop}
+use lib.Seq.{length-take-le, take-at, drop-at, drop-drop}
 use Rattle.rules.specs.Bytes.{if_then_else_, byte, num, blank, over}
-use Rattle.rules.specs.Collector.{Collection, fresh, finished, leastReportReply, totalSaid, portionIn, isReportReply, isForIt, isDifferent, portionNumber, portionVerdict, isTaken, grown, collected}
+use Rattle.rules.specs.Collector.{Collection, fresh, heldBytes, finished, leastReportReply, totalSaid, portionIn, isReportReply, isForIt, isDifferent, portionNumber, portionVerdict, isTaken, grown, collected}
 use Rattle.rules.specs.Report.{mostReport}
 use Rattle.rules.specs.declared.PortionVerdict.{PortionVerdict}
 use Rattle.rules.specs.declared.PortionVerdict.the-variants.{Taken, NotReport, OtherInterface, OtherLength, TotalDifferent, TotalOver}
@@ -81,6 +81,14 @@ module _ (c : Collection) (p : List ℕ) where
   taken-grows : portionVerdict c p ≡ Taken → collected c p ≡ grown c p
   unfolding collected
   taken-grows e = rw e
+
+  taken-bytes : length (c .bytes) ≡ mostReport → portionVerdict c p ≡ Taken → heldBytes (collected c p) ≡ heldBytes c ++ portionIn p
+  unfolding grown over
+  taken-bytes room e =
+      let t = takes c p (ap isTaken e) in
+      let long : length (portionIn p) ≡ num p 16 2 = rw length-drop (omega (arith, t .length-is)) in
+      let held : length (heldBytes c) ≡ c .held = length-take-le (c .held) (c .bytes) (omega (arith, t .most, room)) in
+      rw (taken-grows e) (take-at (heldBytes c ++ portionIn p) (drop (c .held + length (portionIn p)) (c .bytes)) (c .held + num p 16 2) (rw (length-append, held, long)))
 
   taken-counts : portionVerdict c p ≡ Taken → collected c p .held ≡ c .held + num p 16 2
   unfolding grown
@@ -185,6 +193,7 @@ pub takes-rightly : TakesRightly collecting
 takes-rightly = record {
   name-is = name-is;
   refused-leaves = refused-leaves;
+  taken-bytes = taken-bytes;
   taken-counts = taken-counts;
   taken-fixes = taken-fixes;
   total-stays = total-stays;

@@ -2,7 +2,7 @@
 -- collector: what it finds of a reply, and what becomes of it.
 use mathlib.Core.Path.{_≡_}
 use mathlib.Core.Bool.{Bool, true, not, _&&_, _||_}
-use mathlib.Core.List.{List, [], _∷_}
+use mathlib.Core.List.{List, [], _∷_, _++_}
 use Prim.Native.Nat.{ℕ, _+_, _-_, _≤_}
 use lib.Dec.{eqb, ltb}
 use lib.ListN.{length, drop}
@@ -62,8 +62,10 @@ pub record TakesRightly (x : Collecting) : Type 0 where
   pub name-is : (c : Collection) (p : List ℕ) → portionNumber (x .finds c p) ≡ firstOf (portionLines c p)
   -- A refused reply leaves it as it was.
   pub refused-leaves : (c : Collection) (p : List ℕ) → (x .finds c p ≡ Taken → ⊥) → x .after c p ≡ c
-  -- One that is taken moves the count by its portion, and its total is the "before" of those that come.
+  -- One that is taken goes behind the bytes held, of which there are 200 places, and moves the count by its portion;
+  pub taken-bytes : (c : Collection) (p : List ℕ) → length (c .bytes) ≡ mostReport → x .finds c p ≡ Taken → heldBytes (x .after c p) ≡ heldBytes c ++ drop 20 p
   pub taken-counts : (c : Collection) (p : List ℕ) → x .finds c p ≡ Taken → x .after c p .held ≡ c .held + num p 16 2
+  -- its total is the "before" of those that come.
   pub taken-fixes : (c : Collection) (p : List ℕ) → x .finds c p ≡ Taken → (x .after c p .begun ≡ true) × (x .after c p .total ≡ saidTotal c p)
   -- "Before" is the total of the first reply taken: it stays.
   pub total-stays : (c : Collection) (p : List ℕ) → c .begun ≡ true → x .after c p .total ≡ c .total
