@@ -1,5 +1,5 @@
 -- What a request for a report gets: nothing, where the call is refused; an error; or a portion. Assumes nothing.
-use mathlib.Core.Path.{_≡_, refl, sym, ap, _∙_}
+use mathlib.Core.Path.{_≡_, refl, ap, _∙_}
 use mathlib.Core.Bool.{Bool, true, false, not}
 use mathlib.Core.List.{List, []}
 use Prim.Native.Nat.{ℕ, _<_}
@@ -7,7 +7,7 @@ use borrow.Author.Tests.{leb-false}
 use lib.Dec.{leb}
 use lib.ListN.{take}
 use Rattle.rules.specs.Bytes.{if_then_else_, num}
-use Rattle.rules.specs.Call.{Outcome, answered, Request, step}
+use Rattle.rules.specs.Call.{Outcome, answered, step}
 use Rattle.rules.specs.Identity.{identityAt}
 use Rattle.rules.specs.Record.{Rec, state}
 use Rattle.rules.specs.Report.{reportTotal, portionBytes}

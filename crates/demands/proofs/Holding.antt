@@ -9,11 +9,10 @@ use lib.Dec.{eqb, ltb}
 use lib.ListN.{length, take, drop, length-append, length-replicate}
 use lib.Seq.{take-at, take-add, take-length, length-take-le}
 use Rattle.rules.specs.Bytes.{if_then_else_, bytesOf, part, over}
-use Rattle.rules.specs.Collector.{Collection, fresh, heldBytes, finished, portionSaid, remainderSaid, totalSaid, portionIn, isReportReply, isForIt, portionVerdict, grown, collected}
+use Rattle.rules.specs.Collector.{Collection, fresh, heldBytes, finished, portionSaid, totalSaid, portionIn, isReportReply, isForIt, portionVerdict, grown, collected}
 use Rattle.rules.specs.Identity.{identityOf, identityAt, same}
 use Rattle.rules.specs.Report.{mostReport, mostPortion, portionLength, remainderLength}
 use Rattle.rules.specs.Request.{message, errorMessage}
-use Rattle.rules.specs.declared.Identity.{Identity}
 use Rattle.rules.specs.declared.PortionVerdict.the-variants.{Taken, NotReport, TotalDifferent, TotalOver}
 use Rattle.rules.proofs.Bools.{clash, and-left, and-right}
 use Rattle.rules.proofs.Parts.{length-part, length-over}

@@ -1,4 +1,4 @@
--- The demands, proved of `step`, and the wrong responders that they refuse.
+-- The demands, proved of `step`.
 pub mod Lists
 pub mod Answers
 pub mod Exactly
@@ -16,6 +16,3 @@ pub mod Collecting
 pub mod Holding
 pub mod Asked
 pub mod Collected
-pub mod Wrong
-pub mod WrongInRun
-pub mod WrongCollecting

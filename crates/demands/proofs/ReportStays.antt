@@ -22,7 +22,7 @@ use Rattle.rules.proofs.Shown.{report-same, report-running, total-same, portion
 use Rattle.rules.proofs.Stepped.{stays-accepted}
 use Rattle.demands.specs.Exactly.{Reaches, LockStands}
 use Rattle.demands.specs.Machine.{Seen, seen, replyOf, run}
-use Rattle.demands.specs.ReportStays.{Beside, ShowsTheLock, AcceptedStart, SameReport, StartLeavesReport, named, AsksTwice, SameReply, Along, _then_, Leaves, PassesBy, SameWhileLocked, SameOverStart}
+use Rattle.demands.specs.ReportStays.{Beside, ShowsTheLock, AcceptedStart, StartLeavesReport, named, AsksTwice, SameReply, Along, _then_, Leaves, PassesBy, SameWhileLocked, SameOverStart}
 use Rattle.demands.proofs.Exactly.{asked-in-lock, gets-effect}
 use Rattle.demands.proofs.Histories.{found-after}
 use Rattle.demands.proofs.Lasting.{live-stands, along-append, lasting-same, passed-live, passed-lasts}

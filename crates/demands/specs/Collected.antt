@@ -10,7 +10,7 @@ use Rattle.rules.specs.Call.{Call, Request}
 use Rattle.rules.specs.Collector.{Collection, fresh, nextOffset, heldBytes, finished, portionVerdict, collected}
 use Rattle.rules.specs.Identity.{identityOf}
 use Rattle.rules.specs.Record.{Rec}
-use Rattle.rules.specs.Report.{mostReport, mostPortion, reportBytes, reportOf, reportTotal, readNumber, handedBack}
+use Rattle.rules.specs.Report.{mostPortion, reportBytes, reportOf, reportTotal, readNumber, handedBack}
 use Rattle.rules.specs.Request.{Lent}
 use Rattle.rules.specs.Table.{records, recordAt, find, tableNumber}
 use Rattle.rules.specs.declared.Found.the-variants.{At}

@@ -1,7 +1,7 @@
 -- Document 02, 2/12: what taking and refusing do to a collector, whatever the replies are, honest or not: 02's sentences, one by one, stated of any
 -- collector: what it finds of a reply, and what becomes of it.
 use mathlib.Core.Path.{_≡_}
-use mathlib.Core.Bool.{Bool, true, not, _&&_, _||_}
+use mathlib.Core.Bool.{true, not, _&&_, _||_}
 use mathlib.Core.List.{List, [], _∷_, _++_}
 use Prim.Native.Nat.{ℕ, _+_, _-_, _≤_}
 use lib.Dec.{eqb, ltb}

@@ -8,6 +8,3 @@ pub mod Swaps
 pub mod ReportStays
 pub mod Collecting
 pub mod Collected
-pub mod Wrong
-pub mod WrongInRun
-pub mod WrongCollecting

@@ -10,11 +10,11 @@ use Rattle.rules.specs.Collector.{Collection, portionSaid, remainderSaid, total
 use Rattle.rules.specs.Report.{mostReport, reportTotal}
 use Rattle.rules.specs.Request.{Lent, kindOf, message}
 use Rattle.rules.specs.declared.PortionVerdict.the-variants.{NotReport, TotalOver}
 use Rattle.demands.specs.Collected.{Ask}
 use Rattle.demands.specs.Collecting.{Collecting}
 use Rattle.demands.specs.Machine.{Machine}
-use Rattle.demands.specs.Wrong.{asking, wrongly}
-use Rattle.demands.specs.WrongInRun.{startWithSeven}
+use Rattle.wrong.specs.Wrong.{asking, wrongly}
+use Rattle.wrong.specs.WrongInRun.{startWithSeven}
 
 -- ---- wrong collectors
 

@@ -8,8 +8,8 @@ use Rattle.rules.specs.Bytes.{if_then_else_, byte, blank, over}
 use Rattle.rules.specs.Call.{Outcome, served, Request, step}
 use Rattle.rules.specs.Record.{RUN, ERROR}
 use Rattle.rules.specs.Request.{Lent, kindOf, errorMessage, getReport}
 use Rattle.demands.specs.Machine.{Machine, leaving}
-use Rattle.demands.specs.Wrong.{asking, wrongly}
+use Rattle.wrong.specs.Wrong.{asking, wrongly}
 
 -- ---- the card of `Wrong`, further on
 

@@ -1,35 +1,34 @@
 -- Each wrong collector, and each responder that it would come to grief on, is refused by a statement; and what is asked of a history can be
 -- met. Assumes nothing.
 use mathlib.Core.Path.{_≡_, refl, ap}
-use mathlib.Core.Bool.{true, false}
+use mathlib.Core.Bool.{true}
 use mathlib.Core.List.{List, [], _∷_, _++_}
 use Prim.Native.Nat.{ℕ, zero, suc, _<_}
 use native.Mathlib.Omega.{arith}
 use Rattle.rules.specs.Bytes.{Bytes, byte, num, bytesOf, blank, part, over, every, zeros, sameBytes}
 use Rattle.rules.specs.Call.{join, answered, Request, step}
 use Rattle.rules.specs.Collector.{Collection, fresh, heldBytes, finished, isReportReply, portionNumber, portionVerdict, grown, collected}
-use Rattle.rules.specs.Identity.{identityOf, same}
+use Rattle.rules.specs.Identity.{same}
 use Rattle.rules.specs.Range.{listed, eightRanges, neverFall}
 use Rattle.rules.specs.Record.{offsetOk, lockOk, rangesOk, informationOk, recordOk}
 use Rattle.rules.specs.Report.{headOf, bytesOfRanges, informationFrom, reportBytes, reportOf, portionBytes}
 use Rattle.rules.specs.Request.{Lent, header, message, exactLength, legalIn, verdict, getReport, running, startInterface, gets, effect}
-use Rattle.rules.specs.Table.{cut, records, recordAt, all, distinct, lengthOk, tableNumber, findFrom}
-use Rattle.rules.specs.declared.PortionVerdict.{PortionVerdict}
-use Rattle.rules.specs.declared.PortionVerdict.the-variants.{Taken, NotReport, OtherLength}
+use Rattle.rules.specs.Table.{cut, records, all, distinct, lengthOk, tableNumber, findFrom}
+use Rattle.rules.specs.declared.PortionVerdict.the-variants.{Taken, OtherLength}
 use Rattle.rules.proofs.Listed.{same-at}
 use Rattle.rules.proofs.Numbers.{bytes-append}
 use Rattle.demands.specs.Answers.{firstOf}
-use Rattle.demands.specs.Collected.{calls, AsksNext, collection, AskedInTurn, no-ask, asked, OneLock, Collects, wholeReport, FinishedIsWhole, EveryReplyTaken}
+use Rattle.demands.specs.Collected.{calls, AsksNext, collection, no-ask, asked, OneLock, Collects, FinishedIsWhole, EveryReplyTaken}
 use Rattle.demands.specs.Collecting.{TakesRightly}
 use Rattle.demands.specs.Exactly.{Arrives, in-locked, in-run}
 use Rattle.demands.specs.Histories.{Asks}
 use Rattle.demands.specs.Machine.{Machine, run}
 use Rattle.demands.specs.ReportStays.{no-more, _then_}
-use Rattle.demands.specs.Wrong.{interface}
-use Rattle.demands.specs.WrongInRun.{lockedCard, runningCard, onlyInLocked, showsByte}
-use Rattle.demands.specs.WrongCollecting.{replySaying, begun, half, takesNothing, overFirst, refusedMoves, beforeIsLast, sendsNothing, portionAt, ask, threeAsks}
+use Rattle.wrong.specs.Wrong.{interface}
+use Rattle.wrong.specs.WrongInRun.{lockedCard, runningCard, onlyInLocked, showsByte}
+use Rattle.wrong.specs.WrongCollecting.{replySaying, begun, half, takesNothing, overFirst, refusedMoves, beforeIsLast, sendsNothing, portionAt, ask, threeAsks}
 use Rattle.demands.proofs.Collected.{finished-is-whole}
-use Rattle.demands.proofs.Wrong.{differ}
+use Rattle.wrong.proofs.Wrong.{differ}
 
 -- ---- wrong collectors
 

@@ -21,15 +21,15 @@ use Rattle.rules.specs.declared.Identity.{Identity}
 use Rattle.rules.specs.declared.ReportFields.{ReportFields}
 use Rattle.rules.proofs.Bools.{clash}
 use Rattle.rules.proofs.Changes.{bytes-blank}
 use Rattle.demands.specs.Answers.{firstOf, AnswersFixed}
 use Rattle.demands.specs.Exactly.{Reaches, MayLock, RequestsExactly, EventsExactly}
 use Rattle.demands.specs.Histories.{Terms, termsOf, AcceptedLock, ServedStart, Ends, RanSince, InRun, RunExactlyWhen, unlocked}
 use Rattle.demands.specs.Machine.{Seen, bufferOf, run, trace, seen, none-left, _and_}
 use Rattle.demands.specs.Reports.{Writer, Wrote, reader, ReportsFixed, ReportsSurvive}
 use Rattle.demands.specs.Swaps.{DifferentInterfacesSwap}
-use Rattle.demands.specs.Wrong.{card, interface, versionAsked, lockAsked, startAsked, constant, onlyRefuses, onlyErrs, oneReply, leavesTable, runsAtLock, inventsCount, addsByte, showsRefused, writesNothing}
+use Rattle.wrong.specs.Wrong.{card, interface, versionAsked, lockAsked, startAsked, constant, onlyRefuses, onlyErrs, oneReply, leavesTable, runsAtLock, inventsCount, addsByte, showsRefused, writesNothing}
 use Rattle.demands.proofs.Lookups.{one-place}
 use Rattle.demands.proofs.Swaps.{anywhere}
 
 -- the card is accepted, with its interface unlocked and in record 0
 card-accepted : tableNumber card ≡ 0

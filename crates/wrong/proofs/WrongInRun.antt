@@ -12,12 +12,12 @@ use Rattle.rules.specs.Report.{headOf, bytesOfRanges, informationFrom, reportBy
 use Rattle.rules.specs.Request.{header, message, exactLength, legalIn, verdict, getReport, running, startInterface, gets, effect}
 use Rattle.rules.specs.Table.{cut, records, recordAt, all, distinct, lengthOk, tableNumber, findFrom, find}
 use Rattle.rules.specs.declared.Found.the-variants.{At}
 use Rattle.demands.specs.Exactly.{Reaches, LockStands, in-locked, in-run, RequestsExactly}
 use Rattle.demands.specs.Machine.{Machine, replyOf, run, seen}
 use Rattle.demands.specs.ReportStays.{AcceptedStart, StartLeavesReport, Locked, AsksTwice, SameReply, no-more, _then_, SameWhileLocked, SameOverStart}
-use Rattle.demands.specs.Wrong.{interface}
-use Rattle.demands.specs.WrongInRun.{lockedCard, runningCard, failedCard, reportAsked, startWithSeven, onlyInLocked, alsoInError, showsByte, forgetsFlags}
-use Rattle.demands.proofs.Wrong.{differ}
+use Rattle.wrong.specs.Wrong.{interface}
+use Rattle.wrong.specs.WrongInRun.{lockedCard, runningCard, failedCard, reportAsked, startWithSeven, onlyInLocked, alsoInError, showsByte, forgetsFlags}
+use Rattle.wrong.proofs.Wrong.{differ}
 
 -- the request reaches the card in each state
 report-reaches : (t : List ℕ) → tableNumber t ≡ 0 → find interface (records t) ≡ At 0 → Reaches reportAsked t 0 0x84 20

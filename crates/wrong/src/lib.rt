@@ -1,0 +1,1 @@
+// No code: wrong responders and collectors, each refused by a statement of `demands`.
