@@ -10,7 +10,7 @@ use script::settings::{MOST_MESSAGE, Settings};
 use wire::copy::least;
 
 // A request's answer, and the buffer with the reply at its front.
-#[derive(Drop)]
+#[derive(Clone, Copy)]
 pub(crate) struct Replied {
     pub answer: Answer,
     pub buffer: [u8; MOST_MESSAGE],

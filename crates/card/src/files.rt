@@ -4,7 +4,7 @@ ghost use Rattle.io.specs.Counts.{IsPrefixLen};
 use show::say::{decimal, say};
 
 // What came of a file: whether it could be read, whether that was all of it, and how many bytes.
-#[derive(Drop)]
+#[derive(Clone, Copy)]
 pub(crate) struct Loaded {
     pub ok: bool,
     pub whole: bool,

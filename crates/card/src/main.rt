@@ -1,4 +1,6 @@
 // A card in memory: without arguments an embedded one of three interfaces is shown; with a table file and a script its calls are replayed.
+#![tactic(auto)]
+
 mod demo;
 mod files;
 mod replay;

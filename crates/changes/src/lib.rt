@@ -1,4 +1,6 @@
 // Changes and the firmware question: 01, "Changes".
+#![tactic(auto)]
+
 pub mod event;
 pub mod firmware;
 pub mod write;

@@ -1,4 +1,6 @@
 // The checks of a request, in document 01's order: version, type, length, interface; state. They write nothing.
+#![tactic(auto)]
+
 ghost use Rattle.std.specs.Prelude.{◌≡◌, ◌≤◌, length};
 ghost use Rattle.rules.specs.Request.{exact_length, legal_in, verdict};
 ghost use Rattle.rules.specs.Table.{records};

@@ -1,4 +1,6 @@
 // A collector for reports that come in portions: 02, 2/12.
+#![tactic(auto)]
+
 mod reply;
 
 ghost use Rattle.std.specs.Prelude.{◌≡◌, false, ◌≤◌, length, take};
@@ -16,7 +18,7 @@ use wire::identity::{identity_at, identity_of};
 // The bytes of a report so far and how many; of the interface with this FUNCTION_ID; and the total that the first reply taken said. `begun` is 0
 // while no reply was taken, and then the total says nothing. Every value of it is legal. It crosses to C as it stands.
 #[repr(C)]
-#[derive(Drop)]
+#[derive(Clone, Copy)]
 pub struct Collector {
     pub function_id: u32,
     pub held: u32,
@@ -26,7 +28,7 @@ pub struct Collector {
 }
 
 // What became of a reply, and the collector afterwards: as it was beside a refusal.
-#[derive(Drop)]
+#[derive(Clone, Copy)]
 pub struct TakenReply {
     pub verdict: PortionVerdict,
     pub collector: Collector,
@@ -34,7 +36,7 @@ pub struct TakenReply {
 
 // What is held: that many bytes count. It crosses to C as it stands.
 #[repr(C)]
-#[derive(Drop)]
+#[derive(Clone, Copy)]
 pub struct Whole {
     pub length: u32,
     pub bytes: [u8; 200],

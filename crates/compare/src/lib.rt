@@ -1,4 +1,6 @@
 // One line a case: what it is, what came, what the paper says. What prints a case returns whether the two are the same.
+#![tactic(auto)]
+
 pub mod record;
 
 ghost use Rattle.std.specs.Prelude.{◌≡◌, ◌&&◌, eqb, length, take, drop};

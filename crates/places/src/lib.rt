@@ -1,5 +1,7 @@
 // The ranges in a record's eight places, in one pass: their own rules, and whether an offset leaves each of them within the pages. Every
 // call asks this of every record, so it asks by limits and not range by range as `ranges::offset::all_stay` does.
+#![tactic(auto)]
+
 ghost use Rattle.std.specs.Prelude.{◌≡◌, ◌&&◌, ◌+◌, ◌*◌, ◌≤◌, ◌^◌, leb, length};
 ghost use Rattle.rules.specs.Range.{most_ranges, range_bytes, ranges_from};
 ghost use Rattle.rules.specs.Record.{range_count, ranges_ok, offset_ok};

@@ -1,3 +1,5 @@
 // A record's report, composed, and portions of it.
+#![tactic(auto)]
+
 pub mod portion;
 mod record;

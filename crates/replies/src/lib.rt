@@ -1,4 +1,6 @@
 // Replies, written at the front of the reply buffer.
+#![tactic(auto)]
+
 ghost use Rattle.std.specs.Prelude.{◌≡◌, ◌++◌, ◌+◌, ◌≤◌, length};
 ghost use Rattle.rules.specs.Bytes.{bytes_of, over};
 ghost use Rattle.rules.specs.Request.{header, message, error_message};

@@ -8,7 +8,7 @@ use rules::Range;
 
 // A report's number and fields.
 #[repr(C)]
-#[derive(Drop)]
+#[derive(Clone, Copy)]
 pub struct TdispReport {
     pub number: u32,
     pub info: u16,

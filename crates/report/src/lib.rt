@@ -1,4 +1,6 @@
 // Interface reports: read and written.
+#![tactic(auto)]
+
 pub mod crossing;
 pub mod fields;
 pub mod put;

@@ -1,4 +1,6 @@
 // A request, answered: the call that a requester's message makes on a table.
+#![tactic(auto)]
+
 ghost use Rattle.std.specs.Prelude.{◌≡◌, ◌≤◌, ◌<◌, ◌/◌, length};
 ghost use Rattle.rules.specs.Call.{Request, carried_out, step, Gives};
 ghost use Rattle.rules.specs.Request.{kind_of, exact_length, verdict, lent};

@@ -2,7 +2,7 @@
 ghost use Rattle.std.specs.Prelude.{◌≡◌};
 ghost use Rattle.rules.specs.Lock.{contains, supported, stored};
 
-#[derive(Drop)]
+#[derive(Clone, Copy)]
 pub struct LockFlags(pub u16);
 
 impl LockFlags {

@@ -1,4 +1,6 @@
 // The types and the sizes that code and definitions share. Nothing here knows how the code works.
+#![tactic(auto)]
+
 pub mod bit;
 pub mod flags;
 pub mod place;
@@ -21,17 +23,17 @@ pub const MOST_RECORDS: usize = 64;
 pub const PAGES_END: u64 = 4503599627370496;
 
 // 01: a requester number, a stream number and a session number may never stand for one another.
-#[derive(Drop)]
+#[derive(Clone, Copy)]
 pub struct Requester(pub u16);
 
-#[derive(Drop)]
+#[derive(Clone, Copy)]
 pub struct Stream(pub u8);
 
-#[derive(Drop)]
+#[derive(Clone, Copy)]
 pub struct Session(pub u8);
 
 // FUNCTION_ID taken apart: bits 15:0, 23:16 and 24.
-#[derive(Drop)]
+#[derive(Clone, Copy)]
 pub struct Identity {
     pub requester: Requester,
     pub segment: u8,
@@ -40,7 +42,7 @@ pub struct Identity {
 
 // A range of pages: 16 bytes of a record or of a report. It crosses to C as it stands.
 #[repr(C)]
-#[derive(Drop)]
+#[derive(Clone, Copy)]
 pub struct Range {
     pub first: u64,
     pub pages: u32,
@@ -49,14 +51,14 @@ pub struct Range {
 }
 
 // What an offset makes of a range: the first page that is reported, or none that the lock's rule allows.
-#[derive(Drop)]
+#[derive(Clone, Copy)]
 pub enum Shifted {
     Page(u64),
     Out,
 }
 
 // The fields of an interface report: N ranges and L bytes of information count, of eight and 52.
-#[derive(Drop)]
+#[derive(Clone, Copy)]
 pub struct ReportFields {
     pub info: u16,
     pub msix: u16,
@@ -69,7 +71,7 @@ pub struct ReportFields {
 }
 
 // What the report reader and writer find.
-#[derive(Drop)]
+#[derive(Clone, Copy)]
 pub enum ReportVerdict {
     Accepted,
     Short,
@@ -100,21 +102,21 @@ impl ReportVerdict {
 }
 
 // What the reader hands back: zeros beside a refusal.
-#[derive(Drop)]
+#[derive(Clone, Copy)]
 pub struct ReadReport {
     pub verdict: ReportVerdict,
     pub fields: ReportFields,
 }
 
 // What the writer returns: length 0 beside a refusal.
-#[derive(Drop)]
+#[derive(Clone, Copy)]
 pub struct WrittenReport {
     pub verdict: ReportVerdict,
     pub length: usize,
 }
 
 // What a collector finds of a reply: it is taken, or refused by the first of these names that applies (02, 2/12).
-#[derive(Drop)]
+#[derive(Clone, Copy)]
 pub enum PortionVerdict {
     Taken,
     NotReport,
@@ -141,14 +143,14 @@ impl PortionVerdict {
 }
 
 // What the checks of a request find: an error's code and data, or the place of the record to serve.
-#[derive(Drop)]
+#[derive(Clone, Copy)]
 pub enum Verdict {
     Error(u32, u32),
     Serve(usize),
 }
 
 // What a register write of a class may do: 01, "Changes".
-#[derive(Drop)]
+#[derive(Clone, Copy)]
 pub enum Rule {
     Allowed,
     Error,
@@ -157,7 +159,7 @@ pub enum Rule {
 }
 
 // A device-wide change: of all interfaces, of those on a stream, of those of a session.
-#[derive(Drop)]
+#[derive(Clone, Copy)]
 pub enum Event {
     Multicast,
     StreamDown(Stream),
@@ -165,7 +167,7 @@ pub enum Event {
 }
 
 // Why a call is refused: the paper's numbers 1 to 7.
-#[derive(Drop)]
+#[derive(Clone, Copy)]
 pub enum Refusal {
     TableLength,
     TableRecord,
@@ -194,7 +196,7 @@ impl Refusal {
 }
 
 // What a call returns: the reply's length, or how many records moved; or why it is refused.
-#[derive(Drop)]
+#[derive(Clone, Copy)]
 pub enum Answer {
     Served(usize),
     Refused(Refusal),
@@ -223,7 +225,7 @@ impl Answer {
 }
 
 // What the firmware question returns: no beside a refusal.
-#[derive(Drop)]
+#[derive(Clone, Copy)]
 pub enum FirmwareAnswer {
     Yes,
     No,
@@ -255,14 +257,14 @@ impl FirmwareAnswer {
 }
 
 // What a table alone decides.
-#[derive(Drop)]
+#[derive(Clone, Copy)]
 pub enum Judgement {
     Accepted,
     Refused(Refusal),
 }
 
 // What a lookup finds: a record's place, counted from 0, or none.
-#[derive(Drop)]
+#[derive(Clone, Copy)]
 pub enum Found {
     At(usize),
     Nothing,

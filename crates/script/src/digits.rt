@@ -5,7 +5,7 @@ ghost use Rattle.script.specs.Digits.{digit_of, spelled, pair_of, hex_bytes, Put
 use crate::text::first;
 
 // What is wrong with a line.
-#[derive(Drop)]
+#[derive(Clone, Copy)]
 pub enum Wrong {
     LongLine,
     Word,
@@ -19,7 +19,7 @@ pub enum Wrong {
 }
 
 // A number, or what is wrong.
-#[derive(Drop)]
+#[derive(Clone, Copy)]
 pub(crate) enum Number {
     Is(usize),
     Bad(Wrong),

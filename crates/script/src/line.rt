@@ -15,7 +15,7 @@ use rules::{Event, Session, Stream};
 const MOST_LINE: usize = 1024;
 
 // A call of a script; a request's bytes stand beside it, and their number in it.
-#[derive(Drop)]
+#[derive(Clone, Copy)]
 pub enum Call {
     Request(usize),
     RegisterWrite(u32, u8),
@@ -25,7 +25,7 @@ pub enum Call {
 }
 
 // What a line says.
-#[derive(Drop)]
+#[derive(Clone, Copy)]
 pub enum Line {
     Empty,
     Bad(Wrong),

@@ -12,7 +12,7 @@ pub const MOST_MESSAGE: usize = 512;
 pub const MOST_INPUT: usize = 64;
 
 // The nonce bytes and the ready mark, the stream map, the session, the reply buffer's length.
-#[derive(Drop)]
+#[derive(Clone, Copy)]
 pub struct Settings {
     pub nonce: [u8; MOST_INPUT],
     pub nonce_bytes: usize,
@@ -24,7 +24,7 @@ pub struct Settings {
 }
 
 // What a setting line sets: the bytes stand beside it, and their number in it.
-#[derive(Drop)]
+#[derive(Clone, Copy)]
 pub enum Setting {
     Nonce(usize),
     Ready(bool),

@@ -33,7 +33,7 @@ const MULTICAST: [u8; 14] = *b"multicast     ";
 const FIRMWARE: [u8; 14] = *b"firmware      ";
 
 // The word that a line begins with.
-#[derive(Drop)]
+#[derive(Clone, Copy)]
 pub(crate) enum Word {
     Request,
     Nonce,
@@ -51,7 +51,7 @@ pub(crate) enum Word {
 }
 
 // What follows a word: bytes, at most so many; a number, at most a most; a FUNCTION_ID and a number, at most a most; nothing; it is no word.
-#[derive(Drop)]
+#[derive(Clone, Copy)]
 pub(crate) enum Follows {
     Bytes(usize),
     Number(usize),

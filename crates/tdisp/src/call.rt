@@ -13,7 +13,7 @@ use rules::{Answer, Session, Stream};
 
 // A request's number and the reply's length.
 #[repr(C)]
-#[derive(Drop)]
+#[derive(Clone, Copy)]
 pub struct TdispAnswer {
     pub number: u32,
     pub length: u32,
@@ -21,7 +21,7 @@ pub struct TdispAnswer {
 
 // A change's number and how many records moved.
 #[repr(C)]
-#[derive(Drop)]
+#[derive(Clone, Copy)]
 pub struct TdispMoved {
     pub number: u32,
     pub count: u32,
@@ -29,7 +29,7 @@ pub struct TdispMoved {
 
 // The firmware question's number, and 1 for yes.
 #[repr(C)]
-#[derive(Drop)]
+#[derive(Clone, Copy)]
 pub struct TdispYes {
     pub number: u32,
     pub yes: u32,

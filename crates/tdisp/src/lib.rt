@@ -1,3 +1,5 @@
 // The C interface: thin exported functions over the proved crates. c/tdisp.h declares them.
+#![tactic(auto)]
+
 mod call;
 mod reports;

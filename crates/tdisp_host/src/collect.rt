@@ -8,7 +8,7 @@ use collector::{Collector, Whole};
 
 // A reply's number, and the collector afterwards.
 #[repr(C)]
-#[derive(Drop)]
+#[derive(Clone, Copy)]
 pub struct TdispTaken {
     pub number: u32,
     pub collector: Collector,

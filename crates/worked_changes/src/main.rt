@@ -1,4 +1,6 @@
 // Runs changes and the firmware question on small tables, and compares each answer and each state with what document 01 says.
+#![tactic(auto)]
+
 mod card;
 mod classes;
 mod device;

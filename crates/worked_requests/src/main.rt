@@ -1,4 +1,6 @@
 // Runs the worked lines of document 01 on requests that are not marked (P), and cases beside them, and compares each with what the paper says.
+#![tactic(auto)]
+
 mod ask;
 mod bind;
 mod errors;
