@@ -1,4 +1,4 @@
--- `content_verdict` meets its contract: a way out for each number. Assumes nothing.
+-- a way out for each number.
 use mathlib.Core.Path.{◌≡◌}
 use mathlib.Core.Bool.{Bool, true, false, not, ◌&&◌}
 use Prim.Native.Nat.{ℕ}
@@ -8,8 +8,7 @@ use Rattle.rules.specs.Bytes.{bits}
 use Rattle.rules.specs.Range.{all_attributes, all_pages, never_fall, ids_of}
 use Rattle.rules.specs.Report.{content_number}
 use Rattle.rules.specs.declared.Range.{Range}
-use Rattle.verdicts.proofs.content.content_verdict.Statement.{statement}
-use Rattle.verdicts.proofs.content.content_verdict.Tie as tie
+use Rattle.verdicts.proofs.content.content_verdict.Goals as goal
 
 -- a, p and i are the flags of attributes, pages and IDs
 module _ (info n : ℕ) (ranges : ℕ → Range) (a : Bool) (a-is : a ≡ all_attributes n ranges) where
@@ -31,26 +30,14 @@ module _ (info n : ℕ) (ranges : ℕ → Range) (a : Bool) (a-is : a ≡ all_at
       unfolding content_number
       number_0 e = rw (← a-is, a-ok, ← p-is, p-ok, ← i-is, e)
 
-returns : tie.Need-returns
-returns c = search number_23
+pub returns-then-not-info-all_attributes : goal.returns-then-not-info-all_attributes
+returns-then-not-info-all_attributes c = search number_23
 
-returns-2 : tie.Need-returns-2
-returns-2 c = search number_24
+pub returns-then-not-all_pages : goal.returns-then-not-all_pages
+returns-then-not-all_pages c = search number_24
 
-returns-3 : tie.Need-returns-3
-returns-3 c = search number_25
+pub returns-then-not-never_fall : goal.returns-then-not-never_fall
+returns-then-not-never_fall c = search number_25
 
-returns-4 : tie.Need-returns-4
-returns-4 c = search number_0
-
-pub content_verdict_spec : {M : Type 1} → statement M
-content_verdict_spec =
-    tie.close
-    (tie.spec
-    (λ c κs. search rules)
-    returns
-    (λ c κs. search rules)
-    returns-2
-    (λ c κs. search rules)
-    returns-3
-    returns-4)
+pub returns : goal.returns
+returns c = search number_0
