@@ -41,7 +41,7 @@ portion-said-requires c κs = search taken_long
 cast-self : tie.Need-overflow-cast-self
 cast-self c =
     let a = c.before.before.before.before.before.before.before.before.before.before.before.before.args in
-    let h : a.self.held + c.portion_said_lem.result ≤ most_report = search held_most in
+    let h : a.self.held + c.portion_said.result ≤ most_report = search held_most in
     search rules
 
 cast-self-2 : tie.Need-overflow-cast-self-2
