@@ -1,4 +1,4 @@
--- `get` meets its contract: a way out for each type. Assumes nothing.
+-- a way out for each type.
 use mathlib.Core.Path.{◌≡◌}
 use mathlib.Core.List.{List, []}
 use Prim.Native.Nat.{ℕ}
@@ -7,8 +7,7 @@ use Rattle.rules.proofs.Serves.{report_room, a_version, a_capabilities, a_report
 use Rattle.rules.specs.Record.{Rec}
 use Rattle.rules.specs.Request.{kind_of, get_version, get_capabilities, get_report, get_state, gets}
 use Rattle.replies.specs.Replies.{Replies}
-use Rattle.handlers.proofs.serve.get.Statement.{statement}
-use Rattle.handlers.proofs.serve.get.Tie as tie
+use Rattle.handlers.proofs.serve.get.Goals as goal
 
 module _ (q p p' : List ℕ) (r : Rec) (n : ℕ) where
   version : kind_of q ≡ 0x81 → Replies (get_version q []).reply n p p' → Replies (gets q r).reply n p p'
@@ -23,35 +22,17 @@ module _ (q p p' : List ℕ) (r : Rec) (n : ℕ) where
   state_told : (kind_of q ≡ 0x81 → ⊥) → (kind_of q ≡ 0x82 → ⊥) → (kind_of q ≡ 0x84 → ⊥) → Replies (get_state q r).reply n p p' → Replies (gets q r).reply n p p'
   state_told x y z m = rw (← a_state q r x y z) m
 
-returns : tie.Need-returns
-returns c = search version
+pub returns-then-kind : goal.returns-then-kind
+returns-then-kind c = search version
 
-returns-2 : tie.Need-returns-2
-returns-2 c = search capabilities_told
+pub returns-then-kind-2 : goal.returns-then-kind-2
+returns-then-kind-2 c = search capabilities_told
 
-get-report-requires : tie.Need-get-report-requires
-get-report-requires c κs = (search report_room, search rules, search rules, search rules)
+pub get_report-requires : goal.get_report-requires
+get_report-requires c = (search report_room, search rules, search rules, search rules)
 
-returns-3 : tie.Need-returns-3
-returns-3 c = search report
+pub returns-then-kind-3 : goal.returns-then-kind-3
+returns-then-kind-3 c = search report
 
-returns-4 : tie.Need-returns-4
-returns-4 c = search state_told
-
-pub get_spec : {M : Type 1} → statement M
-get_spec =
-    tie.close
-    (tie.spec
-    (λ c. search rules)
-    (λ c κs. search rules)
-    (λ c. search rules)
-    returns
-    (λ c κs. search rules)
-    (λ c. search rules)
-    returns-2
-    get-report-requires
-    (λ c. search rules)
-    returns-3
-    (λ c κs. search rules)
-    (λ c. search rules)
-    returns-4)
+pub returns : goal.returns
+returns c = search state_told

@@ -1,4 +1,4 @@
--- `serve` meets its contract: a way out for each type. Assumes nothing.
+-- a way out for each type.
 use mathlib.Core.Path.{◌≡◌, refl, sym}
 use mathlib.Core.Bool.{Bool, true, false, not}
 use mathlib.Core.List.{List}
@@ -9,8 +9,7 @@ use Rattle.rules.specs.Record.{Rec, state}
 use Rattle.rules.specs.Request.{Lent, kind_of, legal_in, error_message, lock_interface, start_interface, stop_interface, gets, effect}
 use Rattle.locks.specs.Does.{Does}
 use Rattle.replies.specs.Replies.{Replies}
-use Rattle.handlers.proofs.serve.serve.Statement.{statement}
-use Rattle.handlers.proofs.serve.serve.Tie as tie
+use Rattle.handlers.proofs.serve.serve.Goals as goal
 
 module _ (l : Lent) (r : Rec) (b : Bool) (told : b ≡ legal_in (kind_of l.request) (state r)) (n : ℕ) (p' r' : List ℕ) where
   refused : not b ≡ true → Replies (error_message 0x04 0 l.request) n l.reply p' → Does (effect l r) n l.reply p' r
@@ -32,50 +31,23 @@ module _ (l : Lent) (r : Rec) (b : Bool) (told : b ≡ legal_in (kind_of l.reque
         rw (← another l r b told legal x y z)
         (record { length_is = m.length_is; bytes_are = m.bytes_are; record_is = sym (gets_keeps l.request r) })
 
-returns : tie.Need-returns
-returns c = search refused
+pub returns-then-not-legal : goal.returns-then-not-legal
+returns-then-not-legal c = search refused
 
-lock-interface-requires : tie.Need-lock-interface-requires
-lock-interface-requires c κs = (search lock_room, search rules, search rules, search rules, search rules, search rules)
+pub lock_interface-requires : goal.lock_interface-requires
+lock_interface-requires c = (search lock_room, search rules, search rules, search rules, search rules, search rules)
 
-returns-2 : tie.Need-returns-2
-returns-2 c = search locks
+pub returns-then-kind : goal.returns-then-kind
+returns-then-kind c = search locks
 
-start-interface-requires : tie.Need-start-interface-requires
-start-interface-requires c κs = (search start_room, search rules, search rules)
+pub start_interface-requires : goal.start_interface-requires
+start_interface-requires c = (search start_room, search rules, search rules)
 
-returns-3 : tie.Need-returns-3
-returns-3 c = search starts
+pub returns-then-kind-2 : goal.returns-then-kind-2
+returns-then-kind-2 c = search starts
 
-returns-4 : tie.Need-returns-4
-returns-4 c = search stops
+pub returns-then-kind-3 : goal.returns-then-kind-3
+returns-then-kind-3 c = search stops
 
-returns-5 : tie.Need-returns-5
-returns-5 c = search others
-
-pub serve_spec : {M : Type 1} → statement M
-serve_spec =
-    tie.close
-    (tie.spec
-    (λ c. search rules)
-    (λ c. search rules)
-    (λ c κs. search rules)
-    (λ c κs. search rules)
-    (λ c. search rules)
-    returns
-    lock-interface-requires
-    (λ c. search rules)
-    (λ c. search rules)
-    returns-2
-    start-interface-requires
-    (λ c. search rules)
-    (λ c. search rules)
-    returns-3
-    (λ c κs. search rules)
-    (λ c. search rules)
-    (λ c. search rules)
-    returns-4
-    (λ c κs. search rules)
-    (λ c. search rules)
-    (λ c. search rules)
-    returns-5)
+pub returns : goal.returns
+returns c = search others

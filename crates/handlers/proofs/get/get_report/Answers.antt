@@ -1,4 +1,3 @@
--- `get_report` meets its contract. Assumes nothing.
 use mathlib.Core.Path.{◌≡◌}
 use mathlib.Core.Bool.{true}
 use mathlib.Core.List.{List}
@@ -19,8 +18,7 @@ use Rattle.rules.proofs.Parts.{length_part}
 use Rattle.rules.proofs.Portions.{length_of}
 use Rattle.replies.specs.Replies.{Replies}
 use Rattle.handlers.proofs.Lent.{tail_back}
-use Rattle.handlers.proofs.get.get_report.Statement.{statement}
-use Rattle.handlers.proofs.get.get_report.Tie as tie
+use Rattle.handlers.proofs.get.get_report.Goals as goal
 
 module _ (r : Rec) (long : length r ≡ record_bytes) (ok : record_ok r ≡ true) (at asked : ℕ) (inside : at < report_total r) where
   length_portion : length (portion_bytes r at asked) ≡ 4 + portion_length (report_total r) at asked
@@ -58,29 +56,8 @@ module _ (q : List ℕ) (r : Rec) (at total : ℕ) (at-is : at ≡ num q 16 2) (
         bytes_are = message_written 0x04 q sixteen bytes p one _ one-is (tail_back 16 bytes one x x-is);
       })
 
-returns : tie.Need-returns
-returns c = search too_far
+pub returns-then-report_total-at : goal.returns-then-report_total-at
+returns-then-report_total-at c = search too_far
 
-returns-2 : tie.Need-returns-2
-returns-2 c = search a_portion
-
-pub get_report_spec : {M : Type 1} → statement M
-get_report_spec =
-    tie.close
-    (tie.spec
-    (λ c κs. search rules)
-    (λ c. search rules)
-    (λ c κs. search rules)
-    (λ c. search rules)
-    (λ c κs. search rules)
-    (λ c κs. search rules)
-    (λ c. search rules)
-    returns
-    (λ c κs. search rules)
-    (λ c. search rules)
-    (λ c. search rules)
-    (λ c. search rules)
-    (λ c κs. search rules)
-    (λ c. search rules)
-    (λ c. search rules)
-    returns-2)
+pub returns : goal.returns
+returns c = search a_portion
