@@ -8,7 +8,7 @@ use borrow.Author.Tests.{eq-eqb, ne_eqb, eqb-true, eqb-false}
 use lib.Dec.{eqb, ltb}
 use lib.ListN.{length}
 use Rattle.rules.specs.Bytes.{if◌then◌else◌, byte, part, same_bytes}
-use Rattle.rules.specs.Call.{Outcome, refused, served, carried_out, changed, least_reply, least_request, answered, register_written, happened, Call, Request, RegisterWrite, DeviceWide, FirmwareQuestion, step}
+use Rattle.rules.specs.Call.{Outcome, refused, carried_out, changed, least_reply, least_request, answered, register_written, happened, Call, Request, RegisterWrite, DeviceWide, FirmwareQuestion, step}
 use Rattle.rules.specs.Change.{rule_of, hits, write_hits, live, moved}
 use Rattle.rules.specs.Identity.{identity_at, identity_of}
 use Rattle.rules.specs.Lock.{supported}

@@ -8,7 +8,7 @@ use borrow.Author.Tests.{eqb-true, eqb-false}
 use lib.Dec.{eqb}
 use lib.ListN.{length}
 use Rattle.rules.specs.Bytes.{if◌then◌else◌, bit, part, over}
-use Rattle.rules.specs.Call.{Outcome, refused, served, carried_out, changed, answered, register_written, happened, firmware_asked, Call, Request, RegisterWrite, DeviceWide, FirmwareQuestion, step}
+use Rattle.rules.specs.Call.{Outcome, refused, carried_out, changed, answered, register_written, happened, firmware_asked, Call, Request, RegisterWrite, DeviceWide, FirmwareQuestion, step}
 use Rattle.rules.specs.Change.{rule_of, hits, rule_hits, write_hits, live, moves, moved, firmware_yes}
 use Rattle.rules.specs.Identity.{identity_at, identity_of, same}
 use Rattle.rules.specs.Lock.{stored}
@@ -20,7 +20,7 @@ use Rattle.rules.specs.declared.Event.TheVariants.{Multicast, StreamDown, Sessio
 use Rattle.rules.specs.declared.Found.TheVariants.{At}
 use Rattle.rules.specs.declared.Identity.{Identity}
 use Rattle.rules.specs.declared.Rule.{Rule}
-use Rattle.rules.specs.declared.Verdict.TheVariants.{Error, Serve}
+use Rattle.rules.specs.declared.Verdict.TheVariants.{Serve}
 use Rattle.rules.proofs.Bools.{and_right, and_true, and_false}
 use Rattle.rules.proofs.Changed.{record_after}
 use Rattle.rules.proofs.Changes.{state_cleared, state_running, flags_running, stream_running, session_running, state_locked, flags_locked, stream_locked, session_locked, nonce_locked}

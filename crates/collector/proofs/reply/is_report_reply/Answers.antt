@@ -1,4 +1,3 @@
-use borrow.Author.Rules.{rules}
 use Rattle.rules.proofs.Collections.{too_short, long_enough}
 use Rattle.collector.proofs.reply.is_report_reply.Goals as goal
 

@@ -1,5 +1,5 @@
 -- `same_identity` meets its contract: both marked and their segments equal, or neither marked. Assumes nothing.
-use mathlib.Core.Path.{◌≡◌, refl, ap}
+use mathlib.Core.Path.{◌≡◌, refl}
 use mathlib.Core.Bool.{Bool, true, false, not, ◌&&◌, ◌||◌}
 use lib.Dec.{eqb}
 use Rattle.rules.specs.Bytes.{if◌then◌else◌}

@@ -2,7 +2,6 @@
 use mathlib.Core.Path.{◌≡◌}
 use mathlib.Core.Bool.{Bool, true, false}
 use Prim.Native.Nat.{ℕ}
-use borrow.Author.Rules.{rules}
 use Rattle.rules.specs.Bytes.{if◌then◌else◌}
 use Rattle.tdisp_host.proofs.collect.tdisp_collector_finished.Goals as goal
 
