@@ -7,16 +7,18 @@ ghost use Rattle.std.specs.Prelude.{◌≡◌, ◌&&◌, eqb, length, take, drop
 ghost use Rattle.rules.specs.Bytes.{same_bytes};
 ghost use Rattle.rules.specs.Call.{answer_number, answer_value};
 
-use libc::STDOUT_FILENO;
 use rules::Answer;
 use wire::copy::least;
 use wire::same::same_bytes;
 
+// Standard output.
+const STDOUT: i32 = 1;
+
 fn ends(same: bool) {
     if same {
-        io::write_all(STDOUT_FILENO, b"\n");
+        io::write_all(STDOUT, b"\n");
     } else {
-        io::write_all(STDOUT_FILENO, b" WRONG\n");
+        io::write_all(STDOUT, b" WRONG\n");
     }
 }
 
@@ -24,11 +26,11 @@ fn ends(same: bool) {
 pub fn case(name: &[u8], got: u64, want: u64) -> bool
     ensures { result ≡ eqb got want }
 {
-    io::write_all(STDOUT_FILENO, name);
-    io::write_all(STDOUT_FILENO, b": ");
-    io::print_decimal(STDOUT_FILENO, got);
-    io::write_all(STDOUT_FILENO, b", the paper says ");
-    io::print_decimal(STDOUT_FILENO, want);
+    io::write_all(STDOUT, name);
+    io::write_all(STDOUT, b": ");
+    io::print_decimal(STDOUT, got);
+    io::write_all(STDOUT, b", the paper says ");
+    io::print_decimal(STDOUT, want);
     let same = got == want;
     ends(same);
     same
@@ -41,8 +43,8 @@ fn wide(x: u8) -> u64 {
 fn hex(s: &[u8]) {
     let mut i = 0;
     while i < s.len() {
-        io::write_all(STDOUT_FILENO, b" ");
-        io::print_hex(STDOUT_FILENO, wide(s[i]), 2);
+        io::write_all(STDOUT, b" ");
+        io::print_hex(STDOUT, wide(s[i]), 2);
         i += 1;
     }
 }
@@ -61,10 +63,10 @@ fn alike(got: &[u8], want: &[u8]) -> bool
 pub fn bytes(name: &[u8], got: &[u8], want: &[u8]) -> bool
     ensures { result ≡ same_bytes got.now want.now }
 {
-    io::write_all(STDOUT_FILENO, name);
-    io::write_all(STDOUT_FILENO, b"\n  came: ");
+    io::write_all(STDOUT, name);
+    io::write_all(STDOUT, b"\n  came: ");
     hex(got);
-    io::write_all(STDOUT_FILENO, b"\n  paper:");
+    io::write_all(STDOUT, b"\n  paper:");
     hex(want);
     let same = alike(got, want);
     ends(same);
@@ -75,12 +77,12 @@ pub fn bytes(name: &[u8], got: &[u8], want: &[u8]) -> bool
 pub fn unchanged(name: &[u8], got: &[u8], want: &[u8]) -> bool
     ensures { result ≡ same_bytes got.now want.now }
 {
-    io::write_all(STDOUT_FILENO, name);
+    io::write_all(STDOUT, name);
     let same = alike(got, want);
     if same {
-        io::write_all(STDOUT_FILENO, b": unchanged\n");
+        io::write_all(STDOUT, b": unchanged\n");
     } else {
-        io::write_all(STDOUT_FILENO, b": changed, WRONG\n");
+        io::write_all(STDOUT, b": changed, WRONG\n");
     }
     same
 }

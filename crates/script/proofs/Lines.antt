@@ -7,7 +7,7 @@ use borrow.Author.Tests.{lt-ltb, le-ltb, eq-eqb, ne_eqb}
 use lib.Dec.{eqb}
 use lib.ListN.{length, take, drop}
 use Rattle.script.proofs.Places.{first_part, last_part}
-use Rattle.script.specs.Digits.{Within, spelled, Bytes, hex_bytes, Puts}
+use Rattle.script.specs.Digits.{Within, spelled, hex_bytes, Puts}
 use Rattle.script.specs.Line.{word_of, follows_of, limit_of, says_of, said_of, capped_to, size_of, identified, id_and_number, alone_of, line_by, words_of, line_of, Reads}
 use Rattle.script.specs.Text.{is_space, is_no_space, before, First, trimmed, trim}
 use Rattle.script.specs.declared.digits.Number.{Number}

@@ -3,14 +3,18 @@ ghost use Rattle.std.specs.Prelude.{◌≡◌, min, max, length};
 ghost use Rattle.io.specs.Digits.{IsDigitCount};
 ghost use Rattle.script.specs.Text.{trimmed};
 
-use libc::{STDERR_FILENO, STDOUT_FILENO};
 use script::text::trimmed;
+
+// Standard output and standard error.
+pub const STDOUT: i32 = 1;
+
+pub const STDERR: i32 = 2;
 
 // Text on standard output; how many bytes.
 pub fn say(text: &[u8]) -> usize
     ensures { result ≡ length text.now }
 {
-    io::write_all(STDOUT_FILENO, text);
+    io::write_all(STDOUT, text);
     text.len()
 }
 
@@ -18,7 +22,7 @@ pub fn say(text: &[u8]) -> usize
 pub fn warn(text: &[u8]) -> usize
     ensures { result ≡ length text.now }
 {
-    io::write_all(STDERR_FILENO, text);
+    io::write_all(STDERR, text);
     text.len()
 }
 
@@ -37,7 +41,7 @@ pub fn name(name: [u8; 32]) -> usize
     ensures { result ≡ trimmed name (length name) }
 {
     let text = name;
-    front(STDOUT_FILENO, &text)
+    front(STDOUT, &text)
 }
 
 // A name on standard error; how many bytes.
@@ -45,7 +49,7 @@ pub fn warn_name(name: [u8; 32]) -> usize
     ensures { result ≡ trimmed name (length name) }
 {
     let text = name;
-    front(STDERR_FILENO, &text)
+    front(STDERR, &text)
 }
 
 // A number in decimal; how many digits.
@@ -54,7 +58,7 @@ pub fn decimal(n: u64) -> usize
 {
     let mut text = [0u8; 20];
     let k = io::decimal(n, &mut text);
-    io::write_all(STDOUT_FILENO, &text[..k]);
+    io::write_all(STDOUT, &text[..k]);
     k
 }
 
@@ -64,7 +68,7 @@ pub fn number(n: u64, digits: usize) -> usize
 {
     let mut text = [0u8; 16];
     let k = io::hex(n, digits, &mut text);
-    io::write_all(STDOUT_FILENO, &text[..k]);
+    io::write_all(STDOUT, &text[..k]);
     say(b"h");
     k
 }
@@ -81,7 +85,7 @@ pub fn hex(s: &[u8]) -> usize
     let mut i = 0;
     while i < s.len() {
         say(b" ");
-        io::print_hex(STDOUT_FILENO, wide(s[i]), 2);
+        io::print_hex(STDOUT, wide(s[i]), 2);
         i += 1;
     }
     i
