@@ -22,8 +22,7 @@ overflow_add-count c = let got : c.change_record-count.result ≤ 1 = search one
 pub loop-k-preserved : goal.loop-k-preserved
 loop-k-preserved c =
     let got : c.change_record-count.result ≤ 1 = search one_most in
-    let l = c.before in
-    let here : l.loop.k < length l.before.before.args.table.now / record_bytes = omega arith in
+    let here : c.loop-k.k < length c.args.table.now / record_bytes = omega arith in
     (omega arith, search turn_length, search turn_table, search turn_count, omega arith)
 
 pub returns : goal.returns

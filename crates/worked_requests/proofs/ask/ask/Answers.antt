@@ -1,4 +1,4 @@
--- `ask` meets its contract: the table is as `respond` promises of the inputs given. Assumes nothing.
+-- the table is as `respond` promises of the inputs given.
 use mathlib.Core.Path.{◌≡◌}
 use mathlib.Core.Bool.{Bool}
 use mathlib.Core.List.{List, ◌∷◌}
@@ -10,8 +10,7 @@ use Rattle.rules.specs.Call.{answered, Gives}
 use Rattle.rules.specs.Request.{lent}
 use Rattle.rules.specs.declared.Answer.{Answer}
 use Rattle.worked_requests.specs.Asked.{given, nonce_bytes}
-use Rattle.worked_requests.proofs.ask.ask.Statement.{statement}
-use Rattle.worked_requests.proofs.ask.ask.Tie as tie
+use Rattle.worked_requests.proofs.ask.ask.Goals as goal
 
 module _ (request table table' reply' map : List ℕ) (ready : Bool) (answer : Answer) where
   as_given :
@@ -19,19 +18,3 @@ module _ (request table table' reply' map : List ℕ) (ready : Bool) (answer : A
       → Gives (answered (lent request (replicate 256 0xee) nonce_bytes ready map (record { 0 = 9 })) table) answer reply' table'
       → table' ≡ (answered (given request ready) table).table
   as_given e g = rw (← e) g.table_is
-
-returns : tie.Need-returns
-returns c = search as_given
-
-pub ask_spec : {M : Type 1} → statement M
-ask_spec =
-    tie.close
-    (tie.spec
-    (λ c κs. search rules)
-    (λ c. search rules)
-    (λ c. search rules)
-    (λ c. search rules)
-    (λ c κs. search rules)
-    (λ c κs. search rules)
-    (λ c κs. search rules)
-    returns)
