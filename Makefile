@@ -2,7 +2,7 @@
 # make lib    prove the libraries, write the archives for firmware and for hosts, and put them with their headers into target/tdisp
 # make demo   a card of three interfaces to look at; target/bin/card replays scripts: see docs/CARD.md
 # make bench  the proved responder and an ordinary one, side by side: see docs/SPEED.md
-.PHONY: test names lib demo bench
+.PHONY: test names lib card demo bench
 
 CFLAGS = -std=c11 -O2 -Wall -Wextra -Werror
 ARCHIVE = target/tdisp/libtdisp.a
@@ -20,10 +20,9 @@ names:
 
 # Both archives have the report reader; the host's is weak, so that a program may link both, in any order.
 lib:
-	@rt staticlib tdisp
-	@rt staticlib tdisp_host
 	@mkdir -p target/tdisp
-	@cp target/staticlib/libtdisp.a target/staticlib/libtdisp_host.a c/tdisp.h c/tdisp_host.h target/tdisp/
+	@for crate in tdisp tdisp_host; do (cd crates/$$crate && rt lib) > target/lib.log 2>&1 || { cat target/lib.log; exit 1; }; done
+	@cp crates/tdisp/out/libtdisp.a crates/tdisp_host/out/libtdisp_host.a c/tdisp.h c/tdisp_host.h target/tdisp/
 	@$(OBJCOPY) --weaken-symbol=tdisp_read_report $(HOST_ARCHIVE)
 	@echo "target/tdisp has libtdisp.a and tdisp.h, libtdisp_host.a and tdisp_host.h"
 
@@ -41,10 +40,14 @@ target/c/test target/c/example target/c/test_host target/c/test_host_turned targ
 $(BUILT):
 	@$(MAKE) --no-print-directory lib
 
-demo:
-	@mkdir -p target
-	@rt check card > target/demo.log 2>&1 || { cat target/demo.log; exit 1; }
-	@target/bin/card
+# The program: proved, built, and run once without arguments, which shows the demo.
+card:
+	@mkdir -p target/bin
+	@(cd crates/card && rt run) > target/demo 2> target/card.log < /dev/null || { cat target/card.log; exit 1; }
+	@cp crates/card/out/card target/bin/card
+
+demo: card
+	@cat target/demo
 
 bench: lib
 	@cd rust && cargo run --release --offline --quiet --package compare --bin bench

@@ -26,10 +26,28 @@ def imports(text):
     for path, names in re.findall(r"^\s*(?:ghost )?use ([^\s{};]+)\.\{(.*?)\}", text, re.M | re.S):
         for words in (name.split() for name in names.split(",")):
             if words:
-                origin.append(({part for part in words[-1].split("_") if part}, "%s of %s" % (words[0], path.split(".")[-1])))
-    for path, name in re.findall(r"^\s*use ([\w:]+)::(\w+);", text, re.M):
-        origin.append(({name}, "%s of %s" % (name, path.split("::")[-1])))
+                origin.append(({part for part in words[-1].split("◌") if part}, "%s of %s" % (words[0], path.split(".")[-1])))
+    for path in imported(text):
+        of, _, name = path.rpartition("::")
+        origin.append(({name}, "%s of %s" % (name, of.split("::")[-1])))
     return origin
+
+
+def imported(text):
+    """The paths that code imports, one for each name: of `use a::{b, c::{d, e}};` a::b, a::c::d and a::c::e."""
+    found = []
+
+    def within(prefix, words):
+        for word in (word.strip() for word in re.findall(r"(?:[^,{}]|\{(?:[^{}]|\{[^{}]*\})*\})+", words)):
+            group = re.match(r"([\w:]*?)(?:::)?\{(.*)\}$", word, re.S)
+            if group:
+                within(prefix + ([group.group(1)] if group.group(1) else []), group.group(2))
+            elif word:
+                found.append("::".join(prefix + [word.split()[0]]))
+
+    for path in re.findall(r"^[ \t]*(?:pub(?:\([a-z]+\))? )?use ([\w:]+(?:::\{[^;]*\})?);", text, re.M):
+        within([], path)
+    return [path for path in found if "::" in path]
 
 
 def with_origins(item, origin):
@@ -115,13 +133,13 @@ def closing(text, at):
 
 
 def head(text, at):
-    """A function from its place to its body: the first brace that opens no clause of its contract."""
+    """A function from its place to its body: the first brace that opens no clause of its contract. A clause may have a name."""
     end = closing(text, text.index("(", at))
     while True:
         brace = text.find("{", end)
         if brace < 0:
             return text[at:]
-        if not re.search(r"\b(?:requires|ensures|measure|decreases)\s*$", text[at:brace]):
+        if not re.search(r"\b(?:requires|ensures|measure|decreases)(?: \w+)?\s*$", text[at:brace]):
             return text[at:brace]
         end = closing(text, brace)
 
@@ -174,11 +192,12 @@ def types(path, text):
 # ---- proofs and edits
 
 def proofs(path, text):
-    if not path.endswith("/Proof.antt"):
+    """A function's proof is in one file, or in two, which are told together."""
+    of = re.match(r"crates/(\w+)/proofs/(.*)/(?:Proof|Invariants|Answers)\.antt$", path)
+    if not of:
         return antt_items(path, text)
-    name = re.sub(r"crates/(\w+)/proofs/(.*)/Proof\.antt$", r"\1::\2", path).replace("/", "::")
     text = without_comments(text, "--")
-    return {name: with_origins(squeezed(re.sub(r"(?m)^use .*$", "", text)), imports(text))}
+    return {"::".join([of.group(1), *of.group(2).split("/")]): with_origins(squeezed(re.sub(r"(?m)^use .*$", "", text)), imports(text))}
 
 
 def edits(path, text):
@@ -199,5 +218,6 @@ def table(files, kind):
     found = {}
     for path in sorted(files):
         if re.match(pattern, path):
-            found.update(items(path, files[path]))
+            for name, item in items(path, files[path]).items():
+                found[name] = found[name] + " ; " + item if name in found else item
     return found
