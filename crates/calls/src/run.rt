@@ -5,17 +5,16 @@ ghost use Rattle.rules.specs.Bytes.{blank};
 ghost use Rattle.script.specs.Line.{line_of};
 
 use crate::make::make;
-use libc::STDERR_FILENO;
 use script::digits::Wrong;
 use script::line::{Line, read};
 use script::settings::{Settings, set};
 use show::names;
-use show::say::{warn, warn_name};
+use show::say::{STDERR, warn, warn_name};
 
 // A bad line, named by its number.
 fn name_bad(number: u64, why: Wrong) {
     warn(b"script line ");
-    io::print_decimal(STDERR_FILENO, number);
+    io::print_decimal(STDERR, number);
     warn(b": ");
     warn_name(names::wrong(why));
     warn(b"; nothing was run\n");
