@@ -15,6 +15,7 @@ use table::find::find;
 use wire::identity::identity_at;
 
 // The request table: the exact length of a request, 0 where the type is unlisted.
+#[tactic(auto, unfolding(rules::specs::Request::exact_length))]
 fn exact_length(kind: u8) -> usize
     ensures { result ≡ exact_length kind }
 {
@@ -60,6 +61,7 @@ pub fn check_request(request: &[u8], table: &[u8]) -> Verdict
 }
 
 // The request table: the states in which a request is legal. Lock in state 0, report in 1 and 2, start in 1, any other in any state.
+#[tactic(auto, unfolding(rules::specs::Request::legal_in))]
 pub fn legal(kind: u8, state: u8) -> bool
     ensures { result ≡ legal_in kind state }
 {

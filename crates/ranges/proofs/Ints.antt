@@ -75,7 +75,7 @@ module _ (z : ℤ) (k : SFits w64 z) where
 -- and so of a number of pages
 module _ (z : ℤ) (small : mag z ≤ 2 ^ 51) where
   pub held : to_z w64 (of_z w64 z) ≡ z
-  held = to_z-of_z (record { sfits = lt_of_le_of_lt small (lit< tt) })
+  held = to_z-of_z {w = w64} (record { sfits = lt_of_le_of_lt small (lit< tt) })
 
   pub held_small : mag (to_z w64 (of_z w64 z)) ≤ 2 ^ 51
   held_small = subst⁻¹ (λ (x : ℤ). mag x ≤ 2 ^ 51) held small

@@ -35,7 +35,7 @@ record_back t k accepted h l n p' r' m d =
       number_is = refl;
       value_is = w.length_is;
       reply_is = w.bytes_are;
-      table_is = back_is t k h r' steps (rw w.record-is long) ∙ ap (λ (r : List ℕ). join (set (records t) k r)) w.record-is;
+      table_is = back_is t k h r' steps (rw w.record_is long) ∙ ap (λ (r : List ℕ). join (set (records t) k r)) w.record_is;
     }
 
 -- ---- a request that no refusal stops: w is what the checks are to tell

@@ -26,8 +26,8 @@ fn serve_at(
     streams: &[u8],
     session: Session,
 ) -> usize
-    requires in_bounds { (16 ≤ length request.now) × (length request.now ≡ exact_length (kind_of request.now)) × (256 ≤ length reply.old) × (length nonce.now ≡ 32) × (length streams.now ≡ 32) }
-    requires table_value { (table_number table.old ≡ 0) × (k < length table.old / record_bytes) }
+    requires lengths { (16 ≤ length request.now) × (length request.now ≡ exact_length (kind_of request.now)) × (256 ≤ length reply.old) × (length nonce.now ≡ 32) × (length streams.now ≡ 32) }
+    requires in_table { (table_number table.old ≡ 0) × (k < length table.old / record_bytes) }
     ensures { Gives (carried_out (Serve k) (lent request.now reply.old nonce.now ready streams.now session) table.old) (Served result) reply.new table.new }
 {
     let at = k * RECORD_BYTES;

@@ -2,13 +2,13 @@
 #![tactic(auto)]
 
 mod card;
-mod classes;
 mod device;
+mod every_class;
 mod firmware;
 mod refusals;
 
 fn main() {
-    classes::cases();
+    every_class::cases();
     device::cases();
     firmware::cases();
     refusals::cases();

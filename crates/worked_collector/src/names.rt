@@ -1,5 +1,5 @@
 // The names, and which of two is the first.
-use crate::replies::{hand, holds, reply, said};
+use crate::by_hand::{hand, holds, reply, said};
 use collector::Collector;
 
 // A first reply of 20 bytes, 0/0, with one byte another.

@@ -1,5 +1,5 @@
 // Totals: different from before, over 200; portions of 0; a collector that is finished, and one that no reply led to.
-use crate::replies::{holds, said};
+use crate::by_hand::{holds, said};
 use collector::Collector;
 use compare::case;
 use report::read::read_report;

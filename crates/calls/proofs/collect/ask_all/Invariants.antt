@@ -1,0 +1,15 @@
+-- every ask leaves the table, and what is held grows up to 200.
+use mathlib.Core.Path.{◌≡◌, refl, ap, ◌∙◌}
+use Prim.Native.Nat.{◌≤◌, ◌-◌}
+use lib.ListN.{length}
+use Rattle.collector.specs.Kept.{kept}
+use Rattle.rules.specs.Collector.{fresh}
+use Rattle.rules.specs.Report.{most_report}
+use Rattle.calls.proofs.Collecting.{holds_most, starts_empty, Left, at_first, stood, ended, went_on}
+use Rattle.calls.proofs.collect.ask_all.Given as goal
+
+abbrev pub invariant-loop-c : goal.invariant-loop-c
+invariant-loop-c l = (l.c.held ≤ most_report) × (l.table ≡ l.initial.table) × Left l.length l.s l.initial.table (fresh l.function_id) (kept l.c)
+
+abbrev pub decreases-loop-c : goal.decreases-loop-c
+decreases-loop-c l = most_report - l.c.held

@@ -1,0 +1,24 @@
+use mathlib.Core.Path.{◌≡◌}
+use Prim.Native.Nat.{◌≤◌, ◌<◌, ◌-◌}
+use native.Mathlib.Omega.{arith}
+use borrow.Author.Rules.{rules}
+use Rattle.rules.proofs.Listed.{eight_none, eight_more, eight_done}
+use Rattle.rules.proofs.Ranges.{pages_at}
+use Rattle.rules.specs.Lock.{signed}
+use Rattle.rules.specs.Range.{most_ranges, eight_ranges, range_in}
+use Rattle.rules.specs.Report.{shown_range}
+use Rattle.portions.proofs.record.shown_ranges.Goals as goal
+
+pub loop-k-init : goal.loop-k-init
+loop-k-init c = (search rules, rw c.zero_range-zero.ensures (eight_none _))
+
+pub shown_range-requires : goal.shown_range-requires
+shown_range-requires c = search pages_at
+
+pub loop-k-preserved : goal.loop-k-preserved
+loop-k-preserved c =
+    let small : c.loop-k.k < most_ranges = omega arith in
+    (search rules, search eight_more)
+
+pub returns : goal.returns
+returns c = search eight_done

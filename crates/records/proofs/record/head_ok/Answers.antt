@@ -1,0 +1,5 @@
+use borrow.Author.Rules.{rules}
+use Rattle.records.proofs.record.head_ok.Goals as goal
+
+pub returns : goal.returns
+returns c = rw (c.identity_ok.ensures, c.nonce_ok.ensures)
