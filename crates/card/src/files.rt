@@ -1,5 +1,4 @@
 // Files that the arguments name.
-ghost use Rattle.std.specs.Prelude.{◌≤◌};
 ghost use Rattle.io.specs.Counts.{IsPrefixLen};
 
 use script::text::{find, trimmed};
@@ -25,26 +24,25 @@ pub(crate) struct Loaded {
     pub count: usize,
 }
 
-// The system's reason, put at the front of a buffer, without its number in brackets; how many bytes.
-fn reason(error: Error, buffer: &mut [u8; 256]) -> usize
-    ensures { result ≤ 256 }
-{
-    let mut out = Cursor::new(&mut buffer[..]);
+// What is said of an error, with spaces up to one length.
+fn said(error: Error) -> [u8; 256] {
+    let mut out = Cursor::new([b' '; 256]);
     match write!(out, "{error}") {
         Ok(()) => {}
         Err(_) => {}
     }
-    let bracket = find(buffer, 0, b'(');
-    trimmed(&buffer[..bracket])
+    out.into_inner()
 }
 
-// What failed, and the system's reason, on standard error.
+// What failed, and the system's reason, without its number in brackets, on standard error.
 fn fail(what: &[u8], error: Error) {
-    let mut text = [b' '; 256];
-    let n = reason(error, &mut text);
+    let text = said(error);
+    let start = 0;
+    let bracket = find(&text, start, b'(');
+    let end = trimmed(&text[start..bracket]);
     warn(what);
     warn(b": ");
-    warn(&text[..n]);
+    warn(&text[start..end]);
     warn(b"\n");
 }
 
