@@ -4,7 +4,6 @@ use borrow.Author.Rules.{rules}
 use Rattle.places.proofs.OnePass.{too_many, none_keeps, all_keep}
 use Rattle.places.proofs.places_keep.Goals as goal
 
-
 pub returns-then-r-gt-MOST_RANGES : goal.returns-then-r-gt-MOST_RANGES
 returns-then-r-gt-MOST_RANGES c = search too_many
 

@@ -20,7 +20,6 @@ told m r p p' r' k w e = record {
   length_is = w.length_is;
   bytes_are = w.bytes_are;
   record_is = e;
-
 }
 
 module _ (q p n : List ℕ) (b : Bool) (m : List ℕ) (s : Session) (r p' : List ℕ) (k : ℕ) where

@@ -26,7 +26,6 @@ module _ (r : Rec) (k : ℕ) (range : Range) (read : range ≡ range_of r k) whe
     next : true ≡ all_stay (signed x) k (range_of r) → not b ≡ false → true ≡ all_stay (signed x) (k + 1) (range_of r)
     next h e = every_next _ k h here e
 
-
 pub loop-k-init : goal.loop-k-init
 loop-k-init c = (search rules, every_none _)
 

@@ -12,8 +12,8 @@ pub loop-i-preserved : goal.loop-i-preserved
 loop-i-preserved c = (
   search rules,
   elim c.if-a-i.branch [
-  | then-a-i w ↦ w.ok-is ∙ every_drops _ _ (ne_eqb _ _ w.if-a-i.true)
-  | else-a-i w ↦ every_keeps _ _ (w.ok-is ∙ c.loop-i.invariant.1) (eq-eqb _ _ w.if-a-i.false)
+    | then-a-i w ↦ w.ok-is ∙ every_drops _ _ (ne_eqb _ _ w.if-a-i.true)
+    | else-a-i w ↦ every_keeps _ _ (w.ok-is ∙ c.loop-i.invariant.1) (eq-eqb _ _ w.if-a-i.false)
   ],
 )
 

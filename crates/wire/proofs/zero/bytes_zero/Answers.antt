@@ -11,8 +11,7 @@ pub loop-i-preserved : goal.loop-i-preserved
 loop-i-preserved c = (
   search rules,
   elim c.if-s-at-ne0.branch [
-  | then-s-at-ne0 w ↦ w.ok-is ∙ every_drops _ _ (ne_eqb _ _ w.if-s-at-ne0.true)
-  | else-s-at-ne0 w ↦ every_keeps _ _ (w.ok-is ∙ c.loop-i.invariant.1) (eq-eqb _ _ w.if-s-at-ne0.false)
+    | then-s-at-ne0 w ↦ w.ok-is ∙ every_drops _ _ (ne_eqb _ _ w.if-s-at-ne0.true)
+    | else-s-at-ne0 w ↦ every_keeps _ _ (w.ok-is ∙ c.loop-i.invariant.1) (eq-eqb _ _ w.if-s-at-ne0.false)
   ],
 )
-

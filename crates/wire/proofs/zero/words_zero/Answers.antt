@@ -11,7 +11,7 @@ pub loop-i-preserved : goal.loop-i-preserved
 loop-i-preserved c = (
   search rules,
   elim c.if-num64-ne0.branch [
-  | then-num64-ne0 w ↦ w.ok-is ∙ word_drops _ _ _ _ c.num64.ensures w.if-num64-ne0.true
-  | else-num64-ne0 w ↦ word_keeps _ _ _ _ c.num64.ensures (w.ok-is ∙ c.loop-i.invariant.1) w.if-num64-ne0.false
+    | then-num64-ne0 w ↦ w.ok-is ∙ word_drops _ _ _ _ c.num64.ensures w.if-num64-ne0.true
+    | else-num64-ne0 w ↦ word_keeps _ _ _ _ c.num64.ensures (w.ok-is ∙ c.loop-i.invariant.1) w.if-num64-ne0.false
   ],
 )
