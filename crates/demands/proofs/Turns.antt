@@ -1,4 +1,5 @@
 -- What one call does to the record of an interface, and what the caller sees of it. Assumes nothing.
+use Rattle.std.specs.Prelude.{if◌then◌else◌}
 use mathlib.Core.Path.{◌≡◌, refl, sym, ap, ◌∙◌}
 use mathlib.Core.Bool.{Bool, true, false, not, ◌||◌}
 use mathlib.Core.List.{List, []}
@@ -7,7 +8,7 @@ use native.Mathlib.Omega.{arith}
 use borrow.Author.Tests.{eqb-true, eqb-false}
 use lib.Dec.{eqb}
 use lib.ListN.{length}
-use Rattle.rules.specs.Bytes.{if◌then◌else◌, bit, part, over}
+use Rattle.rules.specs.Bytes.{bit, part, over}
 use Rattle.rules.specs.Call.{Outcome, refused, carried_out, changed, answered, register_written, happened, firmware_asked, Call, Request, RegisterWrite, DeviceWide, FirmwareQuestion, step}
 use Rattle.rules.specs.Change.{rule_of, hits, rule_hits, write_hits, live, moves, moved, firmware_yes}
 use Rattle.rules.specs.Identity.{identity_at, identity_of, same}
