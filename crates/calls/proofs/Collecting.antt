@@ -1,11 +1,12 @@
 -- A report, collected: the request, the table after it, and what the collector holds. Assumes nothing.
+use Rattle.std.specs.Prelude.{if◌then◌else◌}
 use mathlib.Core.Bool.{Bool, true, false}
 use mathlib.Core.List.{List, ◌∷◌}
 use mathlib.Core.Path.{◌≡◌, refl, sym, ap, ◌∙◌}
 use Prim.Native.Nat.{ℕ, ◌-◌, ◌≤◌, ◌<◌, min}
 use native.Mathlib.Omega.{arith}
 use lib.ListN.{length, take, drop}
-use Rattle.rules.specs.Bytes.{if◌then◌else◌, bytes_of, blank, over}
+use Rattle.rules.specs.Bytes.{bytes_of, blank, over}
 use Rattle.rules.specs.Call.{answer_value, step}
 use Rattle.rules.specs.Collector.{Collection, fresh, next_offset, finished, portion_verdict, is_taken, grown, collected}
 use Rattle.rules.specs.Report.{most_report}

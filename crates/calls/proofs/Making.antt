@@ -1,4 +1,5 @@
 -- A call, made: a law for each way out. Assumes nothing.
+use Rattle.std.specs.Prelude.{if◌then◌else◌}
 use mathlib.Core.Bool.{Bool, true, false, not}
 use mathlib.Core.List.{List}
 use mathlib.Core.Path.{◌≡◌, refl, ap, ◌∙◌}
@@ -8,7 +9,7 @@ use native.Mathlib.Omega.{arith}
 use lib.Dec.{eqb}
 use lib.ListN.{length, take, drop, length-take}
 use borrow.Rule.Slice.PartMut.{put_mid}
-use Rattle.rules.specs.Bytes.{if◌then◌else◌, blank, over}
+use Rattle.rules.specs.Bytes.{blank, over}
 use Rattle.rules.specs.Call as rules
 use Rattle.rules.specs.Call.{Outcome, firmware_asked, step, Gives}
 use Rattle.rules.specs.Request.{lent}

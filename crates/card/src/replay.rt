@@ -6,6 +6,7 @@ use calls::run::{good, run_line};
 use script::settings::start;
 use script::text::find;
 use show::say::{say, warn};
+use std::rt::{Env, Files};
 
 // The longest table that is accepted; what is read of a table file, so that a longer one is refused by its length.
 const MOST_TABLE: usize = 16384;
@@ -43,9 +44,9 @@ pub(crate) fn run(script: &[u8], table: &mut [u8])
 }
 
 // The script that the second argument names, on a table; whether it was run.
-fn script(table: &mut [u8]) -> bool {
+fn script<R: Env + Files>(rt: &R, table: &mut [u8]) -> bool {
     let mut script = io::large_buffer();
-    let loaded = load(2, &mut script);
+    let loaded = load(rt, 2, &mut script);
     let n = loaded.count;
     if !loaded.ok {
         return false;
@@ -62,7 +63,7 @@ fn script(table: &mut [u8]) -> bool {
 }
 
 // The table after the script, in the file that the third argument names, if there is one.
-fn after(count: usize, table: &[u8]) {
+fn after<R: Env + Files>(rt: &R, count: usize, table: &[u8]) {
     if count < 4 {
         return;
     }
@@ -70,25 +71,25 @@ fn after(count: usize, table: &[u8]) {
         warn(b"table: over 16384 bytes, not written\n");
         return;
     }
-    save(3, table);
+    save(rt, 3, table);
 }
 
 // The script on a table, and the table after it.
-fn both(count: usize, table: &mut [u8]) {
-    if !script(table) {
+fn both<R: Env + Files>(rt: &R, count: usize, table: &mut [u8]) {
+    if !script(rt, table) {
         return;
     }
-    after(count, table);
+    after(rt, count, table);
     say(b"end of the script\n");
 }
 
 // The files that the arguments name: the table, the script and, if there is one, the table after it.
-pub(crate) fn files(count: usize) {
+pub(crate) fn files<R: Env + Files>(rt: &R, count: usize) {
     let mut table = [0u8; TABLE_READ];
-    let loaded = load(1, &mut table);
+    let loaded = load(rt, 1, &mut table);
     let n = loaded.count;
     if !loaded.ok {
         return;
     }
-    both(count, &mut table[..n]);
+    both(rt, count, &mut table[..n]);
 }

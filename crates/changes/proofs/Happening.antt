@@ -4,7 +4,6 @@ use mathlib.Core.Bool.{Bool, true, false}
 use mathlib.Core.List.{List, []}
 use Prim.Native.Nat.{ℕ}
 use borrow.Author.Tests.{eq-eqb}
-use lib.Dec.{eqb}
 use Rattle.rules.specs.Call.{changed, written_by, register_written, happened, firmware_asked, Gives, Says}
 use Rattle.rules.specs.Change.{rule_of, hits, write_hits, firmware_yes}
 use Rattle.rules.specs.Identity.{identity_of}

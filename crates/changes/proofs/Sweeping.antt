@@ -1,4 +1,5 @@
 -- The laws of the loop over all records: the first k are changed. Assumes nothing.
+use Rattle.std.specs.Prelude.{if◌then◌else◌}
 use mathlib.Core.Path.{◌≡◌, refl, sym, ap, ◌∙◌}
 use mathlib.Core.Bool.{Bool, true, false}
 use mathlib.Core.List.{List, []}
@@ -8,7 +9,6 @@ use native.Mathlib.Omega.{arith}
 use borrow.Rule.Slice.PartMut.{same_len_mid}
 use lib.Dec.{eqb}
 use lib.ListN.{length}
-use Rattle.rules.specs.Bytes.{if◌then◌else◌}
 use Rattle.rules.specs.Call.{join, changed, Gives}
 use Rattle.rules.specs.Change.{moves, moved, differing}
 use Rattle.rules.specs.Record.{Rec, state}

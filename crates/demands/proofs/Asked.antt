@@ -1,4 +1,5 @@
 -- What a request for a report gets: nothing, where the call is refused; an error; or a portion. Assumes nothing.
+use Rattle.std.specs.Prelude.{if◌then◌else◌}
 use mathlib.Core.Path.{◌≡◌, refl, ap, ◌∙◌}
 use mathlib.Core.Bool.{Bool, true, false, not}
 use mathlib.Core.List.{List, []}
@@ -6,7 +7,7 @@ use Prim.Native.Nat.{ℕ, ◌<◌}
 use borrow.Author.Tests.{leb-false}
 use lib.Dec.{leb}
 use lib.ListN.{take}
-use Rattle.rules.specs.Bytes.{if◌then◌else◌, num}
+use Rattle.rules.specs.Bytes.{num}
 use Rattle.rules.specs.Call.{Outcome, answered, step}
 use Rattle.rules.specs.Identity.{identity_at}
 use Rattle.rules.specs.Record.{Rec, state}

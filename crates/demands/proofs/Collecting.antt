@@ -1,4 +1,5 @@
 -- What taking and refusing do, whatever the replies. Assumes nothing.
+use Rattle.std.specs.Prelude.{if◌then◌else◌}
 use mathlib.Core.Path.{◌≡◌, refl, sym, ap, ◌∙◌}
 use mathlib.Core.Bool.{Bool, true, false, not, ◌&&◌, ◌||◌}
 use mathlib.Core.List.{List, [], ◌∷◌, ◌++◌}
@@ -9,7 +10,7 @@ use borrow.Author.Tests.{eqb-true, leb-true, leb-false, le-ltb, lt-ltb}
 use lib.Dec.{eqb, leb, ltb}
 use lib.ListN.{length, take, drop, length-append, length-drop, length-replicate, drop_of_length-le}
 use lib.Seq.{length-take-le, take_at, drop_at, drop-drop}
-use Rattle.rules.specs.Bytes.{if◌then◌else◌, byte, num, blank, over}
+use Rattle.rules.specs.Bytes.{byte, num, blank, over}
 use Rattle.rules.specs.Collector.{Collection, fresh, held_bytes, finished, least_report_reply, total_said, portion_in, is_report_reply, is_for_it, is_different, portion_number, portion_verdict, is_taken, grown, collected}
 use Rattle.rules.specs.Report.{most_report}
 use Rattle.rules.specs.declared.PortionVerdict.{PortionVerdict}

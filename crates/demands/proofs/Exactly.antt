@@ -1,4 +1,5 @@
 -- Demand 2, proved of `step`: every request and every event does exactly what 01 calls for. Assumes nothing.
+use Rattle.std.specs.Prelude.{if◌then◌else◌}
 use mathlib.Core.Path.{◌≡◌, refl, sym, ap, ◌∙◌}
 use mathlib.Core.Bool.{Bool, true, false, not}
 use mathlib.Core.List.{List, [], ◌∷◌, map}
@@ -7,7 +8,7 @@ use native.Mathlib.Omega.{arith}
 use borrow.Author.Tests.{eq-eqb, ne_eqb, le-leb, le-ltb, lt-leb}
 use lib.Dec.{eqb}
 use lib.ListN.{length, get_or, set}
-use Rattle.rules.specs.Bytes.{if◌then◌else◌, byte, num, part, same_bytes}
+use Rattle.rules.specs.Bytes.{byte, num, part, same_bytes}
 use Rattle.rules.specs.Call.{join, Outcome, served, carried_out, changed, least_reply, least_request, most_reply, answered, happened, firmware_asked, Request, DeviceWide, FirmwareQuestion, step}
 use Rattle.rules.specs.Change.{rule_of, hits, write_hits, moved, differing, lets}
 use Rattle.rules.specs.Identity.{identity_at, identity_of}

@@ -9,7 +9,7 @@ use borrow.Author.Tests.{eqb-true}
 use lib.ListN.{length, drop}
 use Rattle.rules.specs.Call.{Call, step}
 use Rattle.rules.specs.Change.{live}
-use Rattle.rules.specs.Record.{Rec, state, nonce}
+use Rattle.rules.specs.Record.{Rec, state}
 use Rattle.rules.specs.Table.{records, record_at, all, find}
 use Rattle.rules.specs.declared.Found.{Found}
 use Rattle.rules.specs.declared.Found.TheVariants.{At, Nothing}

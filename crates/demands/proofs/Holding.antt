@@ -1,4 +1,5 @@
 -- A collector that is handed a portion of a report, asked at its OFFSET, takes it and then holds more of the report. Assumes nothing.
+use Rattle.std.specs.Prelude.{if◌then◌else◌}
 use mathlib.Core.Path.{◌≡◌, refl, sym, ap, ◌∙◌}
 use mathlib.Core.Bool.{Bool, true, false, not, ◌&&◌}
 use mathlib.Core.List.{List, [], ◌++◌}
@@ -8,7 +9,7 @@ use borrow.Author.Tests.{eq-eqb, ne_eqb, le-ltb, eqb-true, eqb-false}
 use lib.Dec.{eqb, ltb}
 use lib.ListN.{length, take, drop, length-append, length-replicate}
 use lib.Seq.{take_at, take-add, take-length, length-take-le}
-use Rattle.rules.specs.Bytes.{if◌then◌else◌, bytes_of, part, over}
+use Rattle.rules.specs.Bytes.{bytes_of, part, over}
 use Rattle.rules.specs.Collector.{Collection, fresh, held_bytes, finished, portion_said, total_said, portion_in, is_report_reply, is_for_it, portion_verdict, grown, collected}
 use Rattle.rules.specs.Identity.{identity_of, identity_at, same}
 use Rattle.rules.specs.Report.{most_report, most_portion, portion_length, remainder_length}

@@ -1,4 +1,5 @@
 -- Demands 1 and 2 of reports, proved of the right reader and writer. Assumes nothing.
+use Rattle.std.specs.Prelude.{if◌then◌else◌}
 use mathlib.Core.Path.{◌≡◌, refl}
 use mathlib.Core.Bool.{Bool, true, false, not, ◌&&◌}
 use mathlib.Core.List.{List}
@@ -7,7 +8,7 @@ use native.Mathlib.Omega.{arith}
 use borrow.Author.Tests.{eq-eqb, ne_eqb, eqb-true, eqb-false}
 use lib.Dec.{eqb, ltb}
 use lib.ListN.{length, take, length-append, length-take}
-use Rattle.rules.specs.Bytes.{if◌then◌else◌, Bytes, num, bits, over, zeros}
+use Rattle.rules.specs.Bytes.{Bytes, num, bits, over, zeros}
 use Rattle.rules.specs.Range.{all_pages, all_attributes, never_fall, ids_of}
 use Rattle.rules.specs.Report.{most_report, total_of, field_range, report_bytes, content_number, read_count, read_range, read_length, size_number, read_number, zero_fields, handed_back, write_number, written_length, written, Typed, normal}
 use Rattle.rules.specs.declared.ReportFields.{ReportFields}

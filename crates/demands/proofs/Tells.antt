@@ -1,4 +1,5 @@
 -- What the caller sees decides what became of the record: a lock, a start, and what ends it. Assumes nothing.
+use Rattle.std.specs.Prelude.{if◌then◌else◌}
 use mathlib.Core.Path.{◌≡◌, refl, sym, ap, ◌∙◌}
 use mathlib.Core.Bool.{Bool, true, false, not, ◌&&◌}
 use mathlib.Core.List.{List, []}
@@ -7,8 +8,8 @@ use native.Mathlib.Omega.{arith}
 use borrow.Author.Tests.{eq-eqb, ne_eqb, eqb-true, eqb-false}
 use lib.Dec.{eqb, ltb}
 use lib.ListN.{length}
-use Rattle.rules.specs.Bytes.{if◌then◌else◌, byte, part, same_bytes}
-use Rattle.rules.specs.Call.{Outcome, refused, served, carried_out, changed, least_reply, least_request, answered, register_written, happened, Call, Request, RegisterWrite, DeviceWide, FirmwareQuestion, step}
+use Rattle.rules.specs.Bytes.{byte, part, same_bytes}
+use Rattle.rules.specs.Call.{Outcome, refused, carried_out, changed, least_reply, least_request, answered, register_written, happened, Call, Request, RegisterWrite, DeviceWide, FirmwareQuestion, step}
 use Rattle.rules.specs.Change.{rule_of, hits, write_hits, live, moved}
 use Rattle.rules.specs.Identity.{identity_at, identity_of}
 use Rattle.rules.specs.Lock.{supported}

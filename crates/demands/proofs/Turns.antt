@@ -1,4 +1,5 @@
 -- What one call does to the record of an interface, and what the caller sees of it. Assumes nothing.
+use Rattle.std.specs.Prelude.{if◌then◌else◌}
 use mathlib.Core.Path.{◌≡◌, refl, sym, ap, ◌∙◌}
 use mathlib.Core.Bool.{Bool, true, false, not, ◌||◌}
 use mathlib.Core.List.{List, []}
@@ -7,8 +8,8 @@ use native.Mathlib.Omega.{arith}
 use borrow.Author.Tests.{eqb-true, eqb-false}
 use lib.Dec.{eqb}
 use lib.ListN.{length}
-use Rattle.rules.specs.Bytes.{if◌then◌else◌, bit, part, over}
-use Rattle.rules.specs.Call.{Outcome, refused, served, carried_out, changed, answered, register_written, happened, firmware_asked, Call, Request, RegisterWrite, DeviceWide, FirmwareQuestion, step}
+use Rattle.rules.specs.Bytes.{bit, part, over}
+use Rattle.rules.specs.Call.{Outcome, refused, carried_out, changed, answered, register_written, happened, firmware_asked, Call, Request, RegisterWrite, DeviceWide, FirmwareQuestion, step}
 use Rattle.rules.specs.Change.{rule_of, hits, rule_hits, write_hits, live, moves, moved, firmware_yes}
 use Rattle.rules.specs.Identity.{identity_at, identity_of, same}
 use Rattle.rules.specs.Lock.{stored}
@@ -20,7 +21,7 @@ use Rattle.rules.specs.declared.Event.TheVariants.{Multicast, StreamDown, Sessio
 use Rattle.rules.specs.declared.Found.TheVariants.{At}
 use Rattle.rules.specs.declared.Identity.{Identity}
 use Rattle.rules.specs.declared.Rule.{Rule}
-use Rattle.rules.specs.declared.Verdict.TheVariants.{Error, Serve}
+use Rattle.rules.specs.declared.Verdict.TheVariants.{Serve}
 use Rattle.rules.proofs.Bools.{and_right, and_true, and_false}
 use Rattle.rules.proofs.Changed.{record_after}
 use Rattle.rules.proofs.Changes.{state_cleared, state_running, flags_running, stream_running, session_running, state_locked, flags_locked, stream_locked, session_locked, nonce_locked}

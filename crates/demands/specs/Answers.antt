@@ -1,7 +1,6 @@
 -- Demand 1: whatever bytes arrive, as request, table or event, the call ends with an answer that document 01 fixes. Callers check nothing
 -- first. A refused call returns its number and leaves table and reply buffer as they were. (`Reports` has the same of reports.)
-use Rattle.std.specs.Prelude.{◌≡◌, Bool, not, ◌&&◌, List, [], ◌∷◌, ◌++◌, ℕ, eqb, ltb, length, drop}
-use Rattle.rules.specs.Bytes.{if◌then◌else◌}
+use Rattle.std.specs.Prelude.{◌≡◌, Bool, not, ◌&&◌, List, [], ◌∷◌, ◌++◌, ℕ, eqb, ltb, length, drop, if◌then◌else◌}
 use Rattle.rules.specs.Call.{Outcome, Call, Request, RegisterWrite, DeviceWide, FirmwareQuestion}
 use Rattle.rules.specs.Identity.{identity_of}
 use Rattle.rules.specs.Record.{record_ok}

@@ -1,4 +1,5 @@
 -- The limits of an offset: a range keeps its rules and stays, moved by the offset's pages, exactly when it lies between them. Assumes nothing.
+use Rattle.std.specs.Prelude.{if◌then◌else◌}
 use mathlib.Core.Path.{◌≡◌, refl, sym, ap, ◌∙◌, subst, subst⁻¹}
 use mathlib.Core.Bool.{Bool, true, false, not, cond, ◌&&◌}
 use Prim.Native.Nat.{ℕ, zero, suc, ◌+◌, ◌-◌, ◌*◌, ◌^◌, ◌≤◌, ◌<◌}
@@ -10,7 +11,7 @@ use borrow.Author.Tests.{leb-true, le-leb, lt-leb, ltb-true, ltb-false, not-true
 use lib.Dec.{T, leb, ltb, leb-zero}
 use lib.IntN.{ℤ, pos, negsuc, ◌+ℤ◌, ◌-ℤ◌, nat_abs}
 use lib.Signed.{mag, quot_z, lt_z, non_neg}
-use Rattle.rules.specs.Bytes.{if◌then◌else◌, every, zeros}
+use Rattle.rules.specs.Bytes.{every, zeros}
 use Rattle.rules.specs.Lock.{page_bytes, signed, whole_pages, fitted, shifted, stays, all_stay}
 use Rattle.rules.specs.Range.{most_ranges, range_bytes, pages_end, pages_ok, all_pages, all_attributes, never_fall, ids_of}
 use Rattle.rules.specs.Record.{Rec, ranges_place, range_count, range_of, ranges_ok, offset_ok}

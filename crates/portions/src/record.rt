@@ -1,6 +1,6 @@
 // The fields of a record's report: 01, "Report".
-ghost use Rattle.std.specs.Prelude.{◌≡◌, true, ◌+◌, ◌*◌, ◌/◌, ◌≤◌, length};
-ghost use Rattle.rules.specs.Bytes.{if◌then◌else◌, bit};
+ghost use Rattle.std.specs.Prelude.{◌≡◌, true, ◌+◌, ◌*◌, ◌/◌, ◌≤◌, length, if◌then◌else◌};
+ghost use Rattle.rules.specs.Bytes.{bit};
 ghost use Rattle.rules.specs.Lock.{signed};
 ghost use Rattle.rules.specs.Range.{most_ranges, eight_ranges, range_in, pages_ok, all_pages};
 ghost use Rattle.rules.specs.Record.{most_information, range_count, information_length, record_ok};

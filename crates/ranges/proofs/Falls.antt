@@ -1,4 +1,5 @@
 -- IDs that never fall, in one pass: the least ID that a range may still have stands for all the ranges passed. Assumes nothing.
+use Rattle.std.specs.Prelude.{if◌then◌else◌}
 use mathlib.Core.Path.{◌≡◌, refl, sym, ap, ◌∙◌}
 use mathlib.Core.Bool.{Bool, true, false, not, ◌&&◌}
 use Prim.Native.Nat.{ℕ, ◌+◌, ◌≤◌, ◌<◌}
@@ -7,7 +8,7 @@ use native.Mathlib.Numerals.{add-one}
 use native.Mathlib.Omega.{arith}
 use borrow.Author.Tests.{leb-true, leb-false, le-leb, lt-leb, lt-ltb, le-ltb}
 use lib.Dec.{leb, ltb, leb-zero}
-use Rattle.rules.specs.Bytes.{if◌then◌else◌, every}
+use Rattle.rules.specs.Bytes.{every}
 use Rattle.rules.specs.Range.{no_fall_to, never_fall, ids_of}
 use Rattle.rules.specs.declared.Range.{Range}
 use Rattle.rules.proofs.Bools.{and_true, and_false}

@@ -1,6 +1,5 @@
 // Ranges of pages, of a record or of a report: eight of them, of which n count.
-ghost use Rattle.std.specs.Prelude.{◌≡◌, ◌+◌, ◌*◌, ◌≤◌, leb, length};
-ghost use Rattle.rules.specs.Bytes.{if◌then◌else◌};
+ghost use Rattle.std.specs.Prelude.{◌≡◌, ◌+◌, ◌*◌, ◌≤◌, leb, length, if◌then◌else◌};
 ghost use Rattle.rules.specs.Range.{most_ranges, range_bytes, range_from, ranges_from, zero_range, eight_ranges, range_in, pages_ok, attributes_ok, all_pages, all_attributes, never_fall, ids_of};
 
 use rules::bit::{ATTRIBUTES_UNUSED_FROM, ATTRIBUTES_UNUSED_VALUES};

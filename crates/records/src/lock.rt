@@ -1,6 +1,6 @@
 // The lock's fields of a record, and its ranges, which the offset moves.
-ghost use Rattle.std.specs.Prelude.{◌≡◌, true, ◌&&◌, ◌||◌, ◌≤◌, eqb, leb, length};
-ghost use Rattle.rules.specs.Bytes.{if◌then◌else◌, zeros};
+ghost use Rattle.std.specs.Prelude.{◌≡◌, true, ◌&&◌, ◌||◌, ◌≤◌, eqb, leb, length, if◌then◌else◌};
+ghost use Rattle.rules.specs.Bytes.{zeros};
 ghost use Rattle.rules.specs.Range.{most_ranges};
 ghost use Rattle.rules.specs.Record.{CONFIG_UNLOCKED, ERROR, state, flags, range_count, flags_ok, ranges_ok, offset_ok, lock_ok};
 ghost use Rattle.rules.specs.Table.{record_bytes};

@@ -1,4 +1,5 @@
 -- What number 0 tells of a table. Assumes nothing.
+use Rattle.std.specs.Prelude.{if◌then◌else◌}
 use mathlib.Core.Path.{◌≡◌, refl, ◌∙◌}
 use mathlib.Core.Bool.{Bool, true, false, not, ◌&&◌}
 use mathlib.Core.List.{List, [], ◌∷◌}
@@ -8,7 +9,6 @@ use native.Mathlib.Omega.{arith}
 use borrow.Author.Tests.{eqb-true, leb-true, ltb-true, ltb-false, not-true}
 use lib.Dec.{eqb, leb, ltb}
 use lib.ListN.{length, get_or}
-use Rattle.rules.specs.Bytes.{if◌then◌else◌}
 use Rattle.rules.specs.Identity.{same}
 use Rattle.rules.specs.Record.{Rec, record_ok}
 use Rattle.rules.specs.Table.{records, record_at, record_bytes, most_records, all, identity, names_not, distinct, length_ok, table_number}

@@ -1,4 +1,5 @@
 -- The checks of a request: a law for each way out, and what a request that is to be served tells. Assumes nothing.
+use Rattle.std.specs.Prelude.{if◌then◌else◌}
 use mathlib.Core.Path.{◌≡◌, refl, sym, ap, ◌∙◌}
 use mathlib.Core.Bool.{Bool, true, false, not}
 use mathlib.Core.List.{List}
@@ -7,7 +8,7 @@ use native.Mathlib.Omega.{arith}
 use borrow.Author.Tests.{eq-eqb, ne_eqb, eqb-true, eqb-false}
 use lib.Dec.{eqb}
 use lib.ListN.{length}
-use Rattle.rules.specs.Bytes.{if◌then◌else◌, byte}
+use Rattle.rules.specs.Bytes.{byte}
 use Rattle.rules.specs.Identity.{identity_at}
 use Rattle.rules.specs.Record.{Rec}
 use Rattle.rules.specs.Request.{kind_of, exact_length, looked_up, verdict}

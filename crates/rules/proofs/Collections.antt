@@ -1,4 +1,5 @@
 -- A collector: a reply judged, a law for each way out; what a reply that is taken tells; and the collector that took it. Assumes nothing.
+use Rattle.std.specs.Prelude.{if◌then◌else◌}
 use mathlib.Core.Path.{◌≡◌, refl, sym, ap, ◌∙◌}
 use mathlib.Core.Bool.{Bool, true, false, not, ◌&&◌}
 use mathlib.Core.List.{List}
@@ -8,7 +9,7 @@ use borrow.Author.Tests.{eqb-true, eq-eqb, ne_eqb, leb-true, le-leb, lt-leb, ltb
 use lib.Dec.{eqb, leb, ltb}
 use lib.ListN.{length, take, drop, length-drop, length-take}
 use lib.Seq.{take_all}
-use Rattle.rules.specs.Bytes.{if◌then◌else◌, byte, over}
+use Rattle.rules.specs.Bytes.{byte, over}
 use Rattle.rules.specs.Identity.{identity_of, identity_at, same}
 use Rattle.rules.specs.Report.{most_report}
 use Rattle.rules.specs.Request.{kind_of}

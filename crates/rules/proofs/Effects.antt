@@ -1,4 +1,5 @@
 -- What becomes of the record that a request names: its length, and the bytes that stay. Assumes nothing.
+use Rattle.std.specs.Prelude.{if◌then◌else◌}
 use mathlib.Core.Path.{◌≡◌, refl}
 use mathlib.Core.Bool.{Bool, true, false, not}
 use mathlib.Core.List.{List, []}
@@ -7,7 +8,7 @@ use native.Mathlib.Omega.{arith}
 use lib.Dec.{eqb, leb}
 use lib.ListN.{length}
 use borrow.Author.Tests.{eqb-true}
-use Rattle.rules.specs.Bytes.{if◌then◌else◌, byte, Bytes, num, part, same_bytes}
+use Rattle.rules.specs.Bytes.{byte, Bytes, num, part, same_bytes}
 use Rattle.rules.specs.Lock.{supported}
 use Rattle.rules.specs.Record.{Rec, state, nonce, offset_ok}
 use Rattle.rules.specs.Report.{report_total, portion_bytes}

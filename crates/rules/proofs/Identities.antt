@@ -1,4 +1,5 @@
 -- The one equality of identities. Assumes nothing.
+use Rattle.std.specs.Prelude.{if◌then◌else◌}
 use mathlib.Core.Path.{◌≡◌, refl, sym, ap, ◌∙◌}
 use mathlib.Core.Bool.{Bool, true, false, not, ◌&&◌, ◌||◌}
 use Prim.Native.Nat.{ℕ, ◌+◌, ◌*◌, ◌/◌, ◌%◌, ◌^◌, ◌<◌}
@@ -6,7 +7,7 @@ use native.Mathlib.Omega.{arith}
 use lib.Dec.{eqb}
 use lib.Pow.{shr-shr}
 use borrow.Author.Tests.{eq-eqb, ne_eqb, eqb-true, eqb-false}
-use Rattle.rules.specs.Bytes.{if◌then◌else◌, bit, bits, bit_set}
+use Rattle.rules.specs.Bytes.{bit, bits, bit_set}
 use Rattle.rules.specs.Identity.{identity_of, same}
 use Rattle.rules.specs.Record.{identity_ok}
 use Rattle.rules.specs.declared.Identity.{Identity}

@@ -1,4 +1,5 @@
 -- What a change makes of one record: it moves, or every byte stays. Assumes nothing.
+use Rattle.std.specs.Prelude.{if◌then◌else◌}
 use mathlib.Core.Path.{◌≡◌, refl, sym}
 use mathlib.Core.Bool.{Bool, true, false, not, ◌||◌}
 use mathlib.Core.List.{[]}
@@ -6,7 +7,7 @@ use Prim.Native.Nat.{ℕ}
 use borrow.Author.Tests.{eq-eqb, eqb-true}
 use lib.Dec.{eqb}
 use lib.ListN.{length}
-use Rattle.rules.specs.Bytes.{if◌then◌else◌, byte}
+use Rattle.rules.specs.Bytes.{byte}
 use Rattle.rules.specs.Change.{live, moves, moved}
 use Rattle.rules.specs.Record.{Rec, ERROR, state, record_ok}
 use Rattle.rules.specs.Request.{cleared}

@@ -1,4 +1,5 @@
 -- The report of every record that keeps its rules in state 1 or 2 is accepted by the reader. Assumes nothing.
+use Rattle.std.specs.Prelude.{if◌then◌else◌}
 use mathlib.Core.Path.{◌≡◌, refl, sym, ap, ◌∙◌}
 use mathlib.Core.Bool.{Bool, true, false, ◌&&◌}
 use mathlib.Core.List.{List}
@@ -11,7 +12,7 @@ use lib.Signed.{quot_z}
 use lib.ListN.{length, get_or}
 use lib.Seq.{take_at}
 use borrow.Author.Tests.{leb-true, le-leb, ltb-true, ltb-false, le-ltb, eqb-true, eq-eqb}
-use Rattle.rules.specs.Bytes.{if◌then◌else◌, Bytes, bits, bit, bit_clear, blank, part}
+use Rattle.rules.specs.Bytes.{Bytes, bits, bit, bit_clear, blank, part}
 use Rattle.rules.specs.Lock.{contains, signed, page_bytes, whole_pages, fitted, shifted, stays, all_stay}
 use Rattle.rules.specs.Range.{most_ranges, range_bytes, eight_ranges, range_in, pages_end, zero_range, pages_ok, attributes_ok}
 use Rattle.rules.specs.Record.{Rec, state, flags, lock_msix, range_count, interface_info, msix_control, lnr_control, tph_control, offset, most_information, ranges_place, range_of, information_length, flags_ok, offset_ok, lock_ok, record_ok}

@@ -1,4 +1,5 @@
 -- The longest reply is 148 bytes. Assumes nothing.
+use Rattle.std.specs.Prelude.{if◌then◌else◌}
 use mathlib.Core.Path.{◌≡◌}
 use mathlib.Core.Bool.{Bool, true, false, not}
 use mathlib.Core.List.{List, [], ◌∷◌}
@@ -6,7 +7,7 @@ use Prim.Native.Nat.{ℕ, ◌≤◌}
 use native.Mathlib.Omega.{arith}
 use lib.Dec.{eqb, leb}
 use lib.ListN.{length, length-append, length-take}
-use Rattle.rules.specs.Bytes.{if◌then◌else◌, num, bytes_of, part, same_bytes}
+use Rattle.rules.specs.Bytes.{num, bytes_of, part, same_bytes}
 use Rattle.rules.specs.Call.{most_reply}
 use Rattle.rules.specs.Lock.{supported}
 use Rattle.rules.specs.Record.{Rec, CONFIG_UNLOCKED, state, nonce, offset_ok}

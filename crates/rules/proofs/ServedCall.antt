@@ -1,4 +1,5 @@
 -- What a request leaves of an accepted table. Assumes nothing.
+use Rattle.std.specs.Prelude.{if◌then◌else◌}
 use mathlib.Core.Path.{◌≡◌, refl, sym, ap, ◌∙◌}
 use mathlib.Core.Bool.{Bool, true, false, not, ◌&&◌}
 use mathlib.Core.List.{List, []}
@@ -8,7 +9,7 @@ use borrow.Author.Tests.{eqb-true, eqb-false}
 use lib.Dec.{eqb, ltb}
 use lib.ListN.{length, set, length-set}
 use lib.Seq.{set-get_or}
-use Rattle.rules.specs.Bytes.{if◌then◌else◌, byte, over}
+use Rattle.rules.specs.Bytes.{byte, over}
 use Rattle.rules.specs.Identity.{identity_at}
 use Rattle.rules.specs.Record.{Rec}
 use Rattle.rules.specs.Request.{Lent, Effect, kind_of, header, message, error_message, effect, verdict}

@@ -1,4 +1,5 @@
 -- A request's effect, by its type: a law for each way out. Assumes nothing.
+use Rattle.std.specs.Prelude.{if◌then◌else◌}
 use mathlib.Core.Path.{◌≡◌, refl, ap, ◌∙◌}
 use mathlib.Core.Bool.{Bool, true, false, not}
 use mathlib.Core.List.{List}
@@ -7,7 +8,7 @@ use native.Mathlib.Omega.{arith}
 use borrow.Author.Tests.{ne_eqb}
 use lib.Dec.{eqb, leb}
 use lib.ListN.{length}
-use Rattle.rules.specs.Bytes.{if◌then◌else◌, num}
+use Rattle.rules.specs.Bytes.{num}
 use Rattle.rules.specs.Record.{Rec, state}
 use Rattle.rules.specs.Report.{report_total, portion_bytes}
 use Rattle.rules.specs.Request.{Lent, does, message, kind_of, exact_length, legal_in, fails, get_version, get_capabilities, get_report, get_state, gets, lock_interface, start_interface, stop_interface, effect}

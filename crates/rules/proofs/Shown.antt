@@ -1,13 +1,14 @@
 -- A report is told from a record's configuration, its flags and its offset alone: not from the state, the held mark, the stream, the session or
 -- the nonce. So a start leaves it. Assumes nothing.
+use Rattle.std.specs.Prelude.{if◌then◌else◌}
 use mathlib.Core.Path.{◌≡◌, refl, ap, sym, ◌∙◌}
 use mathlib.Core.Bool.{Bool, true, false}
 use mathlib.Core.List.{List}
-use Prim.Native.Nat.{ℕ, ◌+◌, ◌≤◌, ◌<◌}
+use Prim.Native.Nat.{ℕ, ◌+◌, ◌≤◌}
 use native.Mathlib.Omega.{arith}
 use lib.Dec.{leb}
 use lib.ListN.{length}
-use Rattle.rules.specs.Bytes.{if◌then◌else◌, byte, num}
+use Rattle.rules.specs.Bytes.{byte, num}
 use Rattle.rules.specs.Lock.{signed}
 use Rattle.rules.specs.Range.{eight_ranges}
 use Rattle.rules.specs.Record.{Rec, flags, lock_msix, range_count, offset, information_length}

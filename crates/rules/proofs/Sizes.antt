@@ -1,4 +1,5 @@
 -- A report's size, test by test. Assumes nothing.
+use Rattle.std.specs.Prelude.{if◌then◌else◌}
 use mathlib.Core.Path.{◌≡◌, refl, sym, ap, ◌∙◌}
 use mathlib.Core.Bool.{Bool, true, false, not}
 use mathlib.Core.List.{List}
@@ -7,7 +8,7 @@ use native.Mathlib.Omega.{arith}
 use borrow.Author.Tests.{lt-ltb, le-ltb, ltb-false, eqb-true, not-false}
 use lib.Dec.{eqb, ltb}
 use lib.ListN.{length}
-use Rattle.rules.specs.Bytes.{if◌then◌else◌, num, zeros}
+use Rattle.rules.specs.Bytes.{num, zeros}
 use Rattle.rules.specs.Range.{most_ranges, range_bytes, ranges_from, eight_ranges, range_in}
 use Rattle.rules.specs.Record.{most_information}
 use Rattle.rules.specs.Report.{least_report, total_of, read_count, read_length, read_range, size_number, read_number, content_number, report_number, is_accepted, read_fields, zero_fields, handed_back}

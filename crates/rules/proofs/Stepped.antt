@@ -1,4 +1,5 @@
 -- What every call leaves of a table, whatever it is. Assumes nothing.
+use Rattle.std.specs.Prelude.{if◌then◌else◌}
 use mathlib.Core.Path.{◌≡◌, refl}
 use mathlib.Core.Bool.{Bool, true, false, not}
 use mathlib.Core.List.{List, []}
@@ -6,7 +7,7 @@ use Prim.Native.Nat.{ℕ}
 use borrow.Author.Tests.{eqb-true}
 use lib.Dec.{eqb}
 use lib.ListN.{length}
-use Rattle.rules.specs.Bytes.{if◌then◌else◌, byte}
+use Rattle.rules.specs.Bytes.{byte}
 use Rattle.rules.specs.Call.{Outcome, refused, on_accepted, changed, written_by, register_written, happened, firmware_asked, Call, Request, RegisterWrite, DeviceWide, FirmwareQuestion, step}
 use Rattle.rules.specs.Change.{rule_of, hits, write_hits}
 use Rattle.rules.specs.Identity.{identity_of}

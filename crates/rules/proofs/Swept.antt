@@ -1,4 +1,5 @@
 -- Records that a change goes through one by one: all are moved that it is for, and counted. Assumes nothing.
+use Rattle.std.specs.Prelude.{if◌then◌else◌}
 use mathlib.Core.Path.{◌≡◌, refl, sym, ap}
 use mathlib.Core.Bool.{Bool, true, not}
 use mathlib.Core.List.{List, [], ◌∷◌, map}
@@ -7,7 +8,6 @@ use native.Mathlib.Nat.{le_of_suc-le-suc, not-suc-le-zero}
 use native.Mathlib.Omega.{arith}
 use borrow.Author.Tests.{eq-eqb}
 use lib.ListN.{length, get_or, set}
-use Rattle.rules.specs.Bytes.{if◌then◌else◌}
 use Rattle.rules.specs.Change.{moves, moved, differing}
 use Rattle.rules.specs.Record.{Rec, state, record_ok}
 use Rattle.rules.specs.Table.{record_bytes, all, identity, names_not, distinct}

@@ -1,4 +1,5 @@
 -- Every reply has at most 148 bytes, and every length and count is at most 256, so that it fits 32 bits. Assumes nothing.
+use Rattle.std.specs.Prelude.{if◌then◌else◌}
 use mathlib.Core.Path.{◌≡◌, refl}
 use mathlib.Core.Bool.{Bool, true, false, not}
 use mathlib.Core.List.{List, [], ◌∷◌, map}
@@ -7,7 +8,6 @@ use native.Mathlib.Omega.{arith}
 use borrow.Author.Tests.{eqb-true}
 use lib.Dec.{eqb}
 use lib.ListN.{length}
-use Rattle.rules.specs.Bytes.{if◌then◌else◌}
 use Rattle.rules.specs.Call.{Outcome, refused, changed, most_reply, answered, register_written, happened, firmware_asked, Call, Request, RegisterWrite, DeviceWide, FirmwareQuestion, step}
 use Rattle.rules.specs.Change.{rule_of, hits, write_hits, moved, differing, firmware_yes}
 use Rattle.rules.specs.Identity.{identity_of}

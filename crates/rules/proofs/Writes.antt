@@ -1,4 +1,5 @@
 -- The writer's tests, one by one. Assumes nothing.
+use Rattle.std.specs.Prelude.{if◌then◌else◌}
 use mathlib.Core.Path.{◌≡◌, refl, ap, ◌∙◌}
 use mathlib.Core.Bool.{Bool, true, false, not, ◌||◌}
 use mathlib.Core.List.{List}
@@ -7,7 +8,7 @@ use native.Mathlib.Omega.{arith}
 use borrow.Author.Tests.{lt-ltb, le-ltb, ltb-false, not-true, not-false}
 use lib.Dec.{eqb, ltb}
 use lib.ListN.{length}
-use Rattle.rules.specs.Bytes.{if◌then◌else◌, over}
+use Rattle.rules.specs.Bytes.{over}
 use Rattle.rules.specs.Range.{most_ranges}
 use Rattle.rules.specs.Record.{most_information}
 use Rattle.rules.specs.Report.{most_report, total_of, field_range, report_bytes, content_number, report_number, is_accepted, write_number, written_length, written}

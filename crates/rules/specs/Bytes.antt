@@ -1,12 +1,6 @@
 -- Document 01, "Byte order, said once": every field wider than a byte, in messages, reports and table, is low byte first.
 use Rattle.std.specs.Prelude.{Bool, true, false, ◌&&◌, List, [], ◌∷◌, ◌++◌, ℕ, zero, suc, ◌+◌, ◌-◌, ◌*◌, ◌/◌, ◌%◌, ◌^◌, ◌<◌, eqb, length, take, drop, get_or, replicate}
 
-infix 1 if◌then◌else◌
--- the one or the other, by a test
-abbrev pub if◌then◌else◌ {ℓ} : {A : Type ℓ} → Bool → A → A → A
-if true then a else b = a
-if false then a else b = b
-
 -- ---- numbers
 
 -- the byte at a place

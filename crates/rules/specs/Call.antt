@@ -1,6 +1,6 @@
 -- Document 01, "What a call gets": numbers 0 to 7, answer, reply and table, of every call, over what it is given, byte for byte.
-use Rattle.std.specs.Prelude.{Bool, not, ◌&&◌, ◌≡◌, List, [], ◌∷◌, ◌++◌, map, ℕ, eqb, ltb, length, get_or, set}
-use Rattle.rules.specs.Bytes.{if◌then◌else◌, over}
+use Rattle.std.specs.Prelude.{Bool, not, ◌&&◌, ◌≡◌, List, [], ◌∷◌, ◌++◌, map, ℕ, eqb, ltb, length, get_or, set, if◌then◌else◌}
+use Rattle.rules.specs.Bytes.{over}
 use Rattle.rules.specs.Change.{rule_of, hits, write_hits, moved, differing, firmware_yes}
 use Rattle.rules.specs.Identity.{identity_of}
 use Rattle.rules.specs.Record.{Rec}

@@ -1,6 +1,5 @@
 -- Document 01, "Changes": which records a change moves, and what moving does to a record.
-use Rattle.std.specs.Prelude.{Bool, true, false, not, ◌&&◌, ◌||◌, List, [], ◌∷◌, ℕ, ◌+◌, eqb}
-use Rattle.rules.specs.Bytes.{if◌then◌else◌}
+use Rattle.std.specs.Prelude.{Bool, true, false, not, ◌&&◌, ◌||◌, List, [], ◌∷◌, ℕ, ◌+◌, eqb, if◌then◌else◌}
 use Rattle.rules.specs.Record.{Rec, CONFIG_LOCKED, RUN, ERROR, state, stream, session, no_fw_update, lock_msix}
 use Rattle.rules.specs.Request.{cleared}
 use Rattle.rules.specs.Table.{all, names}

@@ -1,6 +1,6 @@
 -- Document 02, 2/12, "A collector for reports that come in portions": the replies of type 04h for one interface, put together.
-use Rattle.std.specs.Prelude.{Bool, true, false, not, ◌&&◌, List, ℕ, ◌+◌, eqb, leb, ltb, length, take, drop}
-use Rattle.rules.specs.Bytes.{if◌then◌else◌, byte, num, blank, over}
+use Rattle.std.specs.Prelude.{Bool, true, false, not, ◌&&◌, List, ℕ, ◌+◌, eqb, leb, ltb, length, take, drop, if◌then◌else◌}
+use Rattle.rules.specs.Bytes.{byte, num, blank, over}
 use Rattle.rules.specs.Identity.{identity_of, identity_at, same}
 use Rattle.rules.specs.Report.{most_report}
 use Rattle.rules.specs.Request.{kind_of}

@@ -1,6 +1,6 @@
 -- Document 01, "The table" and "Requests": FUNCTION_ID, and which interfaces are the same.
-use Rattle.std.specs.Prelude.{Bool, not, ◌&&◌, List, ℕ, eqb}
-use Rattle.rules.specs.Bytes.{if◌then◌else◌, num, bits, bit_set}
+use Rattle.std.specs.Prelude.{Bool, not, ◌&&◌, List, ℕ, eqb, if◌then◌else◌}
+use Rattle.rules.specs.Bytes.{num, bits, bit_set}
 use Rattle.rules.specs.declared.Identity.{Identity}
 
 -- FUNCTION_ID: bits 15:0 requester, 23:16 segment, 24 segment valid. Bits 31:25 are not looked at.

@@ -1,8 +1,8 @@
 -- Document 01, "Lock": the flags and the offset, which the table's rules cite too.
-use Rattle.std.specs.Prelude.{Bool, true, false, ◌&&◌, ℕ, ◌+◌, ◌-◌, ◌*◌, ◌%◌, ◌^◌, eqb, leb, ltb, ℤ, pos, negsuc, nat_abs, ◌+ℤ◌}
+use Rattle.std.specs.Prelude.{Bool, true, false, ◌&&◌, ℕ, ◌+◌, ◌-◌, ◌*◌, ◌%◌, ◌^◌, eqb, leb, ltb, ℤ, pos, negsuc, nat_abs, ◌+ℤ◌, if◌then◌else◌}
 use Rattle.std.specs.Int.Bits.{bit_and}
 use Rattle.std.specs.Int.Signed.{quot_z}
-use Rattle.rules.specs.Bytes.{if◌then◌else◌, bit, bit_clear, every}
+use Rattle.rules.specs.Bytes.{bit, bit_clear, every}
 use Rattle.rules.specs.Range.{pages_end}
 use Rattle.rules.specs.declared.Range.{Range}
 use Rattle.rules.specs.declared.Shifted.{Shifted}

@@ -1,6 +1,6 @@
 -- Document 01, "The table (ours)": one record.
-use Rattle.std.specs.Prelude.{Bool, ◌&&◌, ◌||◌, List, ℕ, ◌+◌, ◌*◌, eqb, leb}
-use Rattle.rules.specs.Bytes.{if◌then◌else◌, byte, num, bits, bit, bit_set, bit_clear, part, zeros}
+use Rattle.std.specs.Prelude.{Bool, ◌&&◌, ◌||◌, List, ℕ, ◌+◌, ◌*◌, eqb, leb, if◌then◌else◌}
+use Rattle.rules.specs.Bytes.{byte, num, bits, bit, bit_set, bit_clear, part, zeros}
 use Rattle.rules.specs.Lock.{stored, signed, whole_pages, all_stay}
 use Rattle.rules.specs.Range.{most_ranges, range_bytes, ranges_from, all_pages, all_attributes, never_fall, ids_of}
 use Rattle.rules.specs.declared.Range.{Range}

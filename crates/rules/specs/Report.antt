@@ -1,6 +1,6 @@
 -- Document 01, "Report" and "Report reader".
-use Rattle.std.specs.Prelude.{◌≡◌, Bool, true, false, not, ◌&&◌, ◌||◌, List, [], ◌++◌, ℕ, zero, suc, ◌+◌, ◌-◌, ◌*◌, ◌/◌, ◌^◌, ◌<◌, min, eqb, ltb, ℤ, length, take, replicate}
-use Rattle.rules.specs.Bytes.{if◌then◌else◌, Bytes, num, bytes_of, bits, blank, part, over, zeros}
+use Rattle.std.specs.Prelude.{◌≡◌, Bool, true, false, not, ◌&&◌, ◌||◌, List, [], ◌++◌, ℕ, zero, suc, ◌+◌, ◌-◌, ◌*◌, ◌/◌, ◌^◌, ◌<◌, min, eqb, ltb, ℤ, length, take, replicate, if◌then◌else◌}
+use Rattle.rules.specs.Bytes.{Bytes, num, bytes_of, bits, blank, part, over, zeros}
 use Rattle.rules.specs.Lock.{signed, shifted}
 use Rattle.rules.specs.Range.{most_ranges, range_bytes, ranges_from, bytes_of_range, zero_range, eight_ranges, range_in, all_pages, all_attributes, never_fall, ids_of}
 use Rattle.rules.specs.Record.{Rec, most_information, no_fw_update, lock_msix, interface_info, msix_control, lnr_control, tph_control, offset, range_count, range_of, information_length}

@@ -1,6 +1,6 @@
 -- Document 01, "Requests (001)": the checks, and what each request does to the record that it names.
-use Rattle.std.specs.Prelude.{Bool, true, not, ◌||◌, List, [], ◌∷◌, ◌++◌, ℕ, ◌/◌, ◌%◌, eqb, leb, length}
-use Rattle.rules.specs.Bytes.{if◌then◌else◌, byte, num, bytes_of, bit_set, blank, part, over, same_bytes}
+use Rattle.std.specs.Prelude.{Bool, true, not, ◌||◌, List, [], ◌∷◌, ◌++◌, ℕ, ◌/◌, ◌%◌, eqb, leb, length, if◌then◌else◌}
+use Rattle.rules.specs.Bytes.{byte, num, bytes_of, bit_set, blank, part, over, same_bytes}
 use Rattle.rules.specs.Identity.{identity_at}
 use Rattle.rules.specs.Lock.{supported, stored}
 use Rattle.rules.specs.Record.{Rec, CONFIG_UNLOCKED, CONFIG_LOCKED, RUN, state, nonce, offset_ok}

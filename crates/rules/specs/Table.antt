@@ -1,6 +1,5 @@
 -- Document 01, "The table (ours)" and "What a call gets": records of one fixed size, no header, and refusals 1 to 3.
-use Rattle.std.specs.Prelude.{Bool, true, false, not, ◌&&◌, List, [], ◌∷◌, ℕ, zero, suc, ◌*◌, ◌/◌, ◌%◌, eqb, leb, length, take, drop, get_or}
-use Rattle.rules.specs.Bytes.{if◌then◌else◌}
+use Rattle.std.specs.Prelude.{Bool, true, false, not, ◌&&◌, List, [], ◌∷◌, ℕ, zero, suc, ◌*◌, ◌/◌, ◌%◌, eqb, leb, length, take, drop, get_or, if◌then◌else◌}
 use Rattle.rules.specs.Identity.{identity_at, same}
 use Rattle.rules.specs.Record.{Rec, record_ok}
 use Rattle.rules.specs.declared.Identity.{Identity}

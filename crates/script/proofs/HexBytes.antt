@@ -1,4 +1,5 @@
 -- Bytes read pair by pair: what is left, after the bytes so far, answers for the whole. Assumes nothing.
+use Rattle.std.specs.Prelude.{if◌then◌else◌}
 use mathlib.Core.Bool.{false}
 use mathlib.Core.Path.{◌≡◌, refl, sym, ap, ◌∙◌}
 use mathlib.Core.List.{List}
@@ -8,7 +9,6 @@ use borrow.Author.Tests.{lt-ltb, le-ltb, le-leb, lt-leb, eq-eqb, ne_eqb}
 use lib.Dec.{eqb, ltb, leb}
 use lib.ListN.{length, drop, set, get_or, length-drop}
 use lib.Seq.{drop-drop, get_or-drop}
-use Rattle.rules.specs.Bytes.{if◌then◌else◌}
 use Rattle.script.specs.Digits.{pair_of, Bytes, hexed, hex_bytes, Puts}
 use Rattle.script.specs.Text.{is_no_space, before, First}
 use Rattle.script.specs.declared.digits.Number.{Number}

@@ -1,6 +1,6 @@
 -- What digits spell. Assumes nothing.
-use Rattle.std.specs.Prelude.{cond, List, [], ◌∷◌, ◌≡◌, ℕ, zero, suc, ◌+◌, ◌-◌, ◌*◌, ◌≤◌, eqb, ltb, leb, length, drop, set}
-use Rattle.rules.specs.Bytes.{if◌then◌else◌, byte}
+use Rattle.std.specs.Prelude.{cond, List, [], ◌∷◌, ◌≡◌, ℕ, zero, suc, ◌+◌, ◌-◌, ◌*◌, ◌≤◌, eqb, ltb, leb, length, drop, set, if◌then◌else◌}
+use Rattle.rules.specs.Bytes.{byte}
 use Rattle.script.specs.Text.{is_no_space, before}
 use Rattle.script.specs.declared.digits.Number.{Number}
 use Rattle.script.specs.declared.digits.Number.TheVariants.{Is, Bad}

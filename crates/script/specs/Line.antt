@@ -1,7 +1,7 @@
 -- A line of a script, read: the table of docs/CARD.md. Assumes nothing.
-use Rattle.std.specs.Prelude.{Bool, List, ◌≡◌, ℕ, ◌+◌, ◌-◌, eqb, ltb, length, take, drop}
+use Rattle.std.specs.Prelude.{Bool, List, ◌≡◌, ℕ, ◌+◌, ◌-◌, eqb, ltb, length, take, drop, if◌then◌else◌}
 use Prim.Native.String.{String}
-use Rattle.rules.specs.Bytes.{if◌then◌else◌, same_bytes}
+use Rattle.rules.specs.Bytes.{same_bytes}
 use Rattle.rules.specs.declared.Event.{Event}
 use Rattle.script.specs.Digits.{spelled, hex_bytes}
 use Rattle.script.specs.Text.{ascii, is_space, is_no_space, before, trim}

@@ -1,8 +1,7 @@
 -- Places in a text. A text is a list of bytes. Assumes nothing.
-use Rattle.std.specs.Prelude.{Bool, true, false, not, ◌||◌, List, [], ◌∷◌, ◌≡◌, ℕ, zero, suc, ◌+◌, ◌≤◌, eqb, length, take, drop, get_or}
+use Rattle.std.specs.Prelude.{Bool, true, false, not, ◌||◌, List, [], ◌∷◌, ◌≡◌, ℕ, zero, suc, ◌+◌, ◌≤◌, eqb, length, take, drop, get_or, if◌then◌else◌}
 use Prim.Native.Char.{code}
 use Prim.Native.String.{String, [] as none, ◌∷◌ as ◌then◌}
-use Rattle.rules.specs.Bytes.{if◌then◌else◌}
 
 -- a text's bytes, as it is written here: no character is wider than a byte
 abbrev pub ascii : String → List ℕ

@@ -1,7 +1,6 @@
 -- The names that are printed. Those of states, requests, replies and error codes are 001's, those of a collector's refusals 02's. Assumes nothing.
-use Rattle.std.specs.Prelude.{List, ◌++◌, ℕ, eqb, take, replicate}
+use Rattle.std.specs.Prelude.{List, ◌++◌, ℕ, eqb, take, replicate, if◌then◌else◌}
 use Prim.Native.String.{String}
-use Rattle.rules.specs.Bytes.{if◌then◌else◌}
 use Rattle.rules.specs.declared.PortionVerdict.{PortionVerdict}
 use Rattle.rules.specs.declared.Refusal.{Refusal}
 use Rattle.script.specs.Text.{ascii}

@@ -1,6 +1,5 @@
 // The collector of a report's portions.
-ghost use Rattle.std.specs.Prelude.{◌≡◌, false, length, take};
-ghost use Rattle.rules.specs.Bytes.{if◌then◌else◌};
+ghost use Rattle.std.specs.Prelude.{◌≡◌, false, length, take, if◌then◌else◌};
 ghost use Rattle.rules.specs.Collector.{fresh, next_offset, held_bytes, finished, portion_number, portion_verdict, is_taken, collected};
 ghost use Rattle.collector.specs.Kept.{kept};
 

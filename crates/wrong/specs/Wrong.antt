@@ -1,6 +1,6 @@
 -- Wrong responders, and the one card on which each is told from the right one: `proofs/Wrong.antt` shows which demand refuses it.
-use Rattle.std.specs.Prelude.{true, List, [], ◌∷◌, ◌++◌, map, ℕ, eqb}
-use Rattle.rules.specs.Bytes.{if◌then◌else◌, blank}
+use Rattle.std.specs.Prelude.{true, List, [], ◌∷◌, ◌++◌, map, ℕ, eqb, if◌then◌else◌}
+use Rattle.rules.specs.Bytes.{blank}
 use Rattle.rules.specs.Call.{join, Outcome, refused, served, Call, Request, RegisterWrite, DeviceWide, FirmwareQuestion, step}
 use Rattle.rules.specs.Identity.{identity_of}
 use Rattle.rules.specs.Record.{Rec, CONFIG_LOCKED, state}

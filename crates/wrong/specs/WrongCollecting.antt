@@ -1,7 +1,7 @@
 -- Wrong collectors and responders that a collector would come to grief on (02, 2/12), and what each is told by: `proofs/WrongCollecting.antt` shows which
 -- statement refuses it. And one card whose report is collected over a start, so that what is asked of a history can be met.
-use Rattle.std.specs.Prelude.{true, List, [], ◌∷◌, ◌++◌, ℕ, ◌+◌, eqb, ltb}
-use Rattle.rules.specs.Bytes.{if◌then◌else◌, bytes_of, blank}
+use Rattle.std.specs.Prelude.{true, List, [], ◌∷◌, ◌++◌, ℕ, ◌+◌, eqb, ltb, if◌then◌else◌}
+use Rattle.rules.specs.Bytes.{bytes_of, blank}
 use Rattle.rules.specs.Call.{Call, served, Request, step}
 use Rattle.rules.specs.Collector.{Collection, portion_said, remainder_said, total_said, is_taken, portion_verdict, grown, collected}
 use Rattle.rules.specs.Report.{most_report, report_total}

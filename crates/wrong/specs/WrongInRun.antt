@@ -1,7 +1,7 @@
 -- Responders that are wrong about the report in RUN (02, 1/12), and the card on which each is told from the right one: `proofs/WrongInRun.antt`
 -- shows which demand refuses it.
-use Rattle.std.specs.Prelude.{◌&&◌, List, [], ◌∷◌, ◌++◌, ℕ, eqb}
-use Rattle.rules.specs.Bytes.{if◌then◌else◌, byte, blank, over}
+use Rattle.std.specs.Prelude.{◌&&◌, List, [], ◌∷◌, ◌++◌, ℕ, eqb, if◌then◌else◌}
+use Rattle.rules.specs.Bytes.{byte, blank, over}
 use Rattle.rules.specs.Call.{Outcome, served, Request, step}
 use Rattle.rules.specs.Record.{RUN, ERROR}
 use Rattle.rules.specs.Request.{Lent, kind_of, error_message, get_report}

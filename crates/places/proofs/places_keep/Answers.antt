@@ -1,6 +1,4 @@
 -- a way out for each test.
-use native.Mathlib.Omega.{arith}
-use borrow.Author.Rules.{rules}
 use Rattle.places.proofs.OnePass.{too_many, none_keeps, all_keep}
 use Rattle.places.proofs.places_keep.Goals as goal
 

@@ -1,11 +1,7 @@
-use mathlib.Core.Path.{◌≡◌}
-use mathlib.Core.Bool.{true}
-use Prim.Native.Nat.{◌≤◌, ◌-◌}
 use borrow.Author.Rules.{rules}
-use Rattle.rules.specs.Range.{ranges_from, all_attributes, ids_of, never_fall}
-use Rattle.places.specs.Limits.{all_inside}
-use Rattle.ranges.proofs.Falls.{StandsFor, none_yet, one_more, no_fall_lem, no_fall_yet}
-use Rattle.places.proofs.OnePass.{clean, gathered_none, gathered_next, inside_none, inside_next, outside, id_falls, all_passed}
+use Rattle.rules.specs.Range.{ranges_from}
+use Rattle.ranges.proofs.Falls.{none_yet, one_more, no_fall_lem, no_fall_yet}
+use Rattle.places.proofs.OnePass.{gathered_none, gathered_next, inside_none, inside_next, outside, id_falls, all_passed}
 use Rattle.places.proofs.ranges_keep.Goals as goal
 
 pub loop-k-init : goal.loop-k-init

@@ -4,8 +4,8 @@ use mathlib.Core.Bool.{true}
 use Prim.Native.Nat.{◌≤◌, ◌-◌}
 use Rattle.rules.specs.Range.{ranges_from, all_attributes, ids_of, never_fall}
 use Rattle.places.specs.Limits.{all_inside}
-use Rattle.ranges.proofs.Falls.{StandsFor, none_yet, one_more, no_fall_lem, no_fall_yet}
-use Rattle.places.proofs.OnePass.{clean, gathered_none, gathered_next, inside_none, inside_next, outside, id_falls, all_passed}
+use Rattle.ranges.proofs.Falls.{StandsFor}
+use Rattle.places.proofs.OnePass.{clean}
 use Rattle.places.proofs.ranges_keep.Given as goal
 
 abbrev pub invariant-loop-k : goal.invariant-loop-k

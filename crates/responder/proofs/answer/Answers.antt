@@ -1,5 +1,4 @@
 -- a law for each way out.
-use borrow.Author.Rules.{rules}
 use Rattle.responder.proofs.Answers.{reply_short, request_short, wrong_map, wrong_nonce, served}
 use Rattle.responder.proofs.answer.Goals as goal
 

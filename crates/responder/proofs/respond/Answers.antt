@@ -1,5 +1,4 @@
 -- the table's refusals, then `answer`.
-use borrow.Author.Rules.{rules}
 use Rattle.rules.proofs.Refusals.{judged_accepted}
 use Rattle.responder.proofs.Answers.{judged}
 use Rattle.responder.proofs.respond.Goals as goal

@@ -1,11 +1,8 @@
-use mathlib.Core.Path.{◌≡◌, refl, ap, ◌∙◌}
-use Prim.Native.Nat.{◌≤◌, ◌-◌}
-use lib.ListN.{length}
+use mathlib.Core.Path.{refl, ◌∙◌}
+use Prim.Native.Nat.{◌≤◌}
 use borrow.Author.Rules.{rules}
-use Rattle.collector.specs.Kept.{kept}
-use Rattle.rules.specs.Collector.{fresh}
 use Rattle.rules.specs.Report.{most_report}
-use Rattle.calls.proofs.Collecting.{holds_most, starts_empty, Left, at_first, stood, ended, went_on}
+use Rattle.calls.proofs.Collecting.{holds_most, starts_empty, at_first, stood, ended, went_on}
 use Rattle.calls.proofs.collect.ask_all.Goals as goal
 
 pub loop-c-init : goal.loop-c-init

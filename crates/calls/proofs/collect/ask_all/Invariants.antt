@@ -1,11 +1,10 @@
 -- every ask leaves the table, and what is held grows up to 200.
-use mathlib.Core.Path.{◌≡◌, refl, ap, ◌∙◌}
+use mathlib.Core.Path.{◌≡◌}
 use Prim.Native.Nat.{◌≤◌, ◌-◌}
-use lib.ListN.{length}
 use Rattle.collector.specs.Kept.{kept}
 use Rattle.rules.specs.Collector.{fresh}
 use Rattle.rules.specs.Report.{most_report}
-use Rattle.calls.proofs.Collecting.{holds_most, starts_empty, Left, at_first, stood, ended, went_on}
+use Rattle.calls.proofs.Collecting.{Left}
 use Rattle.calls.proofs.collect.ask_all.Given as goal
 
 abbrev pub invariant-loop-c : goal.invariant-loop-c

@@ -1,4 +1,3 @@
-use borrow.Author.Rules.{rules}
 use Rattle.calls.proofs.Making.{made, made_firmware}
 use Rattle.calls.proofs.make.make.Goals as goal
 

@@ -1,4 +1,3 @@
-use borrow.Author.Rules.{rules}
 use Rattle.calls.proofs.Running.{left_settings, left_table}
 use Rattle.calls.proofs.run.run_line.Goals as goal
 

@@ -1,12 +1,8 @@
-use mathlib.Core.Path.{◌≡◌, refl}
-use Prim.Native.Nat.{◌≤◌, ◌<◌, ◌-◌, ◌/◌}
+use mathlib.Core.Path.{refl}
+use Prim.Native.Nat.{◌≤◌, ◌<◌, ◌/◌}
 use native.Mathlib.Omega.{arith}
 use lib.ListN.{length, length-take, length-drop}
-use borrow.Author.Rules.{rules}
-use Rattle.rules.specs.Call.{join}
-use Rattle.rules.specs.Change.{hits, differing}
-use Rattle.rules.specs.Table.{records, record_bytes}
-use Rattle.rules.proofs.Swept.{swept}
+use Rattle.rules.specs.Table.{record_bytes}
 use Rattle.changes.proofs.Sweeping.{one_most, sweep_start, count_start, sweep_done, turn_table, turn_count, turn_length}
 use Rattle.changes.proofs.event.sweep.Goals as goal
 

@@ -1,12 +1,11 @@
 -- the first k records are changed, and counted.
-use mathlib.Core.Path.{◌≡◌, refl}
-use Prim.Native.Nat.{◌≤◌, ◌<◌, ◌-◌, ◌/◌}
-use lib.ListN.{length, length-take, length-drop}
+use mathlib.Core.Path.{◌≡◌}
+use Prim.Native.Nat.{◌≤◌, ◌-◌}
+use lib.ListN.{length}
 use Rattle.rules.specs.Call.{join}
 use Rattle.rules.specs.Change.{hits, differing}
-use Rattle.rules.specs.Table.{records, record_bytes}
+use Rattle.rules.specs.Table.{records}
 use Rattle.rules.proofs.Swept.{swept}
-use Rattle.changes.proofs.Sweeping.{one_most, sweep_start, count_start, sweep_done, turn_table, turn_count, turn_length}
 use Rattle.changes.proofs.event.sweep.Given as goal
 
 abbrev pub invariant-loop-k : goal.invariant-loop-k

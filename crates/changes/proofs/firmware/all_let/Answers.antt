@@ -1,10 +1,6 @@
-use mathlib.Core.Path.{◌≡◌, refl}
-use Prim.Native.Nat.{◌≤◌, ◌-◌}
-use lib.ListN.{drop}
+use mathlib.Core.Path.{refl}
 use borrow.Author.Rules.{rules}
 use Rattle.rules.proofs.Scan.{all_stop, all_next, all_end}
-use Rattle.rules.specs.Change.{lets}
-use Rattle.rules.specs.Table.{records, all}
 use Rattle.changes.proofs.firmware.all_let.Goals as goal
 
 pub loop-k-init : goal.loop-k-init

@@ -1,8 +1,7 @@
 -- what is left from record k on answers for the whole.
-use mathlib.Core.Path.{◌≡◌, refl}
+use mathlib.Core.Path.{◌≡◌}
 use Prim.Native.Nat.{◌≤◌, ◌-◌}
 use lib.ListN.{drop}
-use Rattle.rules.proofs.Scan.{all_stop, all_next, all_end}
 use Rattle.rules.specs.Change.{lets}
 use Rattle.rules.specs.Table.{records, all}
 use Rattle.changes.proofs.firmware.all_let.Given as goal

@@ -1,4 +1,3 @@
-use borrow.Author.Rules.{rules}
 use Rattle.rules.proofs.Refusals.{judged_accepted}
 use Rattle.changes.proofs.Happening.{firmware_refused, firmware_yes_lem, firmware_no}
 use Rattle.changes.proofs.firmware.firmware_question.Goals as goal

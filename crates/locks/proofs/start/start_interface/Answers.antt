@@ -2,7 +2,6 @@ use mathlib.Core.Path.{◌≡◌, refl}
 use mathlib.Core.Bool.{Bool, true, false, not}
 use mathlib.Core.List.{List, []}
 use Prim.Native.Nat.{ℕ}
-use borrow.Author.Rules.{rules}
 use Rattle.rules.specs.Bytes.{same_bytes, part}
 use Rattle.rules.specs.Record.{nonce}
 use Rattle.rules.specs.Request.{message, error_message, running, start_interface}

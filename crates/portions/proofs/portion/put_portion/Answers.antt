@@ -1,4 +1,3 @@
-use borrow.Author.Rules.{rules}
 use Rattle.rules.proofs.Portions.{report_fits, portion_length_lem, portion_written}
 use Rattle.portions.proofs.portion.put_portion.Goals as goal
 

@@ -1,6 +1,5 @@
 use mathlib.Core.Path.{refl}
 use native.Mathlib.Omega.{arith}
-use borrow.Author.Rules.{rules}
 use Rattle.rules.proofs.Kept.{count_most}
 use Rattle.portions.proofs.record.range_count.Goals as goal
 

@@ -1,4 +1,3 @@
-use borrow.Author.Rules.{rules}
 use Rattle.portions.proofs.record.shown_attributes.Goals as goal
 
 pub returns-else-msix : goal.returns-else-msix

@@ -1,6 +1,5 @@
 use mathlib.Core.Path.{◌≡◌}
 use native.Mathlib.Omega.{arith}
-use borrow.Author.Rules.{rules}
 use Rattle.rules.proofs.Bits.{flag_set, flag_clear}
 use Rattle.rules.specs.Bytes.{bit}
 use Rattle.portions.proofs.record.shown_info.Goals as goal

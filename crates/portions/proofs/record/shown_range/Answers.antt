@@ -1,5 +1,4 @@
 use mathlib.Core.Path.{refl}
-use borrow.Author.Rules.{rules}
 use Rattle.rules.proofs.Ranges.{range_start}
 use Rattle.portions.proofs.record.shown_range.Goals as goal
 

@@ -1,12 +1,9 @@
-use mathlib.Core.Path.{◌≡◌}
-use Prim.Native.Nat.{◌≤◌, ◌<◌, ◌-◌}
+use Prim.Native.Nat.{◌<◌}
 use native.Mathlib.Omega.{arith}
 use borrow.Author.Rules.{rules}
 use Rattle.rules.proofs.Listed.{eight_none, eight_more, eight_done}
 use Rattle.rules.proofs.Ranges.{pages_at}
-use Rattle.rules.specs.Lock.{signed}
-use Rattle.rules.specs.Range.{most_ranges, eight_ranges, range_in}
-use Rattle.rules.specs.Report.{shown_range}
+use Rattle.rules.specs.Range.{most_ranges}
 use Rattle.portions.proofs.record.shown_ranges.Goals as goal
 
 pub loop-k-init : goal.loop-k-init

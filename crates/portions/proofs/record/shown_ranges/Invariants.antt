@@ -1,10 +1,8 @@
 -- k ranges are filled.
 use mathlib.Core.Path.{◌≡◌}
-use Prim.Native.Nat.{◌≤◌, ◌<◌, ◌-◌}
-use Rattle.rules.proofs.Listed.{eight_none, eight_more, eight_done}
-use Rattle.rules.proofs.Ranges.{pages_at}
+use Prim.Native.Nat.{◌≤◌, ◌-◌}
 use Rattle.rules.specs.Lock.{signed}
-use Rattle.rules.specs.Range.{most_ranges, eight_ranges, range_in}
+use Rattle.rules.specs.Range.{eight_ranges, range_in}
 use Rattle.rules.specs.Report.{shown_range}
 use Rattle.portions.proofs.record.shown_ranges.Given as goal
 

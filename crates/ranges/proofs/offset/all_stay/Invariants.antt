@@ -1,13 +1,9 @@
 -- every range before the k-th stays.
-use mathlib.Core.Path.{◌≡◌, ap, ◌∙◌}
-use mathlib.Core.Bool.{Bool, true, false, not}
-use Prim.Native.Nat.{ℕ, ◌+◌, ◌≤◌, ◌<◌, ◌-◌}
-use Rattle.rules.proofs.Every.{every_none, every_next, every_stop, every_done, every_at}
-use Rattle.rules.proofs.Ranges.{pages_ok_lem}
-use Rattle.rules.specs.Lock.{signed, shifted, stays, all_stay}
-use Rattle.rules.specs.Range.{pages_ok}
-use Rattle.rules.specs.Record.{Rec, range_count, range_of, ranges_ok}
-use Rattle.rules.specs.declared.Range.{Range}
+use mathlib.Core.Path.{◌≡◌}
+use mathlib.Core.Bool.{true}
+use Prim.Native.Nat.{◌≤◌, ◌-◌}
+use Rattle.rules.specs.Lock.{signed, all_stay}
+use Rattle.rules.specs.Record.{range_of}
 use Rattle.ranges.proofs.offset.all_stay.Given as goal
 
 abbrev pub invariant-loop-k : goal.invariant-loop-k

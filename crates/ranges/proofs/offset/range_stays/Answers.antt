@@ -1,5 +1,4 @@
 use mathlib.Core.Path.{refl, ap, ◌∙◌}
-use borrow.Author.Rules.{rules}
 use Rattle.rules.proofs.Ranges.{range_start}
 use Rattle.rules.specs.Lock.{stays}
 use Rattle.ranges.proofs.offset.range_stays.Goals as goal

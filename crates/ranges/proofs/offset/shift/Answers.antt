@@ -1,4 +1,4 @@
-use Rattle.std.proofs.Common.{rules, ap, ◌∙◌, ℤ, pos, ◌+ℤ◌}
+use Rattle.std.proofs.Common.{ap, ◌∙◌, ℤ, pos, ◌+ℤ◌}
 use Rattle.rules.specs.Lock.{fitted, shifted}
 use Rattle.ranges.proofs.Ints.{held}
 use Rattle.ranges.proofs.offset.shift.Goals as goal

@@ -1,9 +1,5 @@
-use mathlib.Core.Path.{◌≡◌}
-use mathlib.Core.Bool.{true}
-use Prim.Native.Nat.{◌≤◌, ◌-◌}
 use borrow.Author.Rules.{rules}
 use Rattle.rules.proofs.Every.{every_none, every_next, every_stop, every_done}
-use Rattle.rules.specs.Range.{range_in, all_pages}
 use Rattle.ranges.proofs.range.all_pages.Goals as goal
 
 pub loop-k-init : goal.loop-k-init

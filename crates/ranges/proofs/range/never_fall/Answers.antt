@@ -1,9 +1,6 @@
-use mathlib.Core.Path.{◌≡◌}
-use mathlib.Core.Bool.{true}
-use Prim.Native.Nat.{◌≤◌, ◌-◌}
 use borrow.Author.Rules.{rules}
-use Rattle.rules.specs.Range.{range_in, ids_of, never_fall}
-use Rattle.ranges.proofs.Falls.{StandsFor, none_yet, one_more, falls, no_fall_lem, no_fall_yet, never}
+use Rattle.rules.specs.Range.{range_in}
+use Rattle.ranges.proofs.Falls.{none_yet, one_more, falls, no_fall_lem, no_fall_yet, never}
 use Rattle.ranges.proofs.range.never_fall.Goals as goal
 
 pub loop-k-init : goal.loop-k-init

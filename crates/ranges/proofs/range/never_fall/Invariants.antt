@@ -3,7 +3,7 @@ use mathlib.Core.Path.{◌≡◌}
 use mathlib.Core.Bool.{true}
 use Prim.Native.Nat.{◌≤◌, ◌-◌}
 use Rattle.rules.specs.Range.{range_in, ids_of, never_fall}
-use Rattle.ranges.proofs.Falls.{StandsFor, none_yet, one_more, falls, no_fall_lem, no_fall_yet, never}
+use Rattle.ranges.proofs.Falls.{StandsFor}
 use Rattle.ranges.proofs.range.never_fall.Given as goal
 
 abbrev pub invariant-loop-k : goal.invariant-loop-k

@@ -1,4 +1,3 @@
-use borrow.Author.Rules.{rules}
 use Rattle.ranges.proofs.range.range_from.Goals as goal
 
 pub returns : goal.returns

@@ -1,9 +1,8 @@
-use mathlib.Core.Path.{◌≡◌}
-use Prim.Native.Nat.{◌≤◌, ◌<◌, ◌-◌}
+use Prim.Native.Nat.{◌<◌}
 use native.Mathlib.Omega.{arith}
 use borrow.Author.Rules.{rules}
 use Rattle.rules.proofs.Listed.{eight_none, eight_more, eight_done}
-use Rattle.rules.specs.Range.{most_ranges, ranges_from, eight_ranges}
+use Rattle.rules.specs.Range.{most_ranges}
 use Rattle.ranges.proofs.range.ranges_from.Goals as goal
 
 pub loop-k-init : goal.loop-k-init

@@ -1,8 +1,7 @@
 -- k ranges are filled.
 use mathlib.Core.Path.{◌≡◌}
-use Prim.Native.Nat.{◌≤◌, ◌<◌, ◌-◌}
-use Rattle.rules.proofs.Listed.{eight_none, eight_more, eight_done}
-use Rattle.rules.specs.Range.{most_ranges, ranges_from, eight_ranges}
+use Prim.Native.Nat.{◌≤◌, ◌-◌}
+use Rattle.rules.specs.Range.{ranges_from, eight_ranges}
 use Rattle.ranges.proofs.range.ranges_from.Given as goal
 
 abbrev pub invariant-loop-k : goal.invariant-loop-k

@@ -1,4 +1,3 @@
-use borrow.Author.Rules.{rules}
 use Rattle.records.proofs.lock.fields_ok.Goals as goal
 
 pub returns-then-unlocked : goal.returns-then-unlocked

@@ -1,13 +1,13 @@
 -- where the offset must be zero, it meets the lock's rule.
+use Rattle.std.specs.Prelude.{if◌then◌else◌}
 use mathlib.Core.Path.{◌≡◌, refl, sym, ap, ◌∙◌}
 use mathlib.Core.Bool.{Bool, true, false, not, ◌&&◌, ◌||◌}
 use Prim.Native.Nat.{ℕ}
 use lib.Dec.{eqb, leb}
-use borrow.Author.Rules.{rules}
 use borrow.Author.Tests.{eqb-true, not-true, not-false}
 use Rattle.places.proofs.Limits.{unmoved}
 use Rattle.rules.proofs.Bools.{and_true, and_false}
-use Rattle.rules.specs.Bytes.{if◌then◌else◌, zeros}
+use Rattle.rules.specs.Bytes.{zeros}
 use Rattle.rules.specs.Range.{most_ranges}
 use Rattle.rules.specs.Record.{Rec, CONFIG_UNLOCKED, ERROR, state, flags, offset, range_count, flags_ok, ranges_ok, offset_ok, lock_ok}
 use Rattle.wire.proofs.Zeros.{number_zero}

@@ -1,4 +1,3 @@
-use borrow.Author.Rules.{rules}
 use Rattle.rules.specs.Record.{offset_ok}
 use Rattle.records.proofs.lock.offset_ok.Goals as goal
 

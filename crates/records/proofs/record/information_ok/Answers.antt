@@ -4,7 +4,6 @@ use mathlib.Core.Bool.{Bool, true, false, ◌&&◌}
 use Prim.Native.Nat.{ℕ, ◌+◌, ◌≤◌, ◌<◌}
 use native.Mathlib.Omega.{arith}
 use lib.Dec.{eqb, leb}
-use borrow.Author.Rules.{rules}
 use borrow.Author.Tests.{eqb-true, eqb-false, lt-leb, le-leb}
 use Rattle.rules.specs.Bytes.{every, zeros}
 use Rattle.rules.specs.Record.{Rec, most_information, information_length, information_ok}

@@ -1,5 +1,4 @@
 use native.Mathlib.Nat.{div-one}
-use borrow.Author.Rules.{rules}
 use Rattle.records.proofs.record.interface_ok.Goals as goal
 
 pub returns : goal.returns

@@ -2,7 +2,6 @@
 use mathlib.Core.Path.{◌≡◌, refl, sym, ap, ◌∙◌}
 use mathlib.Core.Bool.{Bool, true, false, not, ◌&&◌}
 use lib.Dec.{eqb, leb}
-use borrow.Author.Rules.{rules}
 use borrow.Author.Tests.{not-true, not-false}
 use Rattle.rules.proofs.Bools.{and_true, and_false}
 use Rattle.rules.specs.Bytes.{byte}

@@ -2,7 +2,6 @@ use mathlib.Core.Path.{◌≡◌}
 use mathlib.Core.List.{List}
 use Prim.Native.Nat.{ℕ, ◌+◌, ◌*◌}
 use native.Mathlib.Omega.{arith}
-use borrow.Author.Rules.{rules}
 use Rattle.rules.specs.Bytes.{num}
 use Rattle.rules.specs.Range.{range_bytes, ranges_from, eight_ranges}
 use Rattle.rules.specs.Report.{information_from, read_count, read_length, read_fields}

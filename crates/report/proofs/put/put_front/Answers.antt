@@ -1,4 +1,3 @@
-use borrow.Author.Rules.{rules}
 use Rattle.rules.proofs.Written.{front_written}
 use Rattle.report.proofs.put.put_front.Goals as goal
 

@@ -1,11 +1,6 @@
-use mathlib.Core.Path.{◌≡◌, refl, ◌∙◌}
-use Prim.Native.Nat.{◌≤◌, ◌-◌}
-use lib.ListN.{length}
+use mathlib.Core.Path.{refl, ◌∙◌}
 use borrow.Author.Rules.{rules}
 use Rattle.rules.proofs.Written.{ranges_none, ranges_more, ranges_done}
-use Rattle.rules.specs.Bytes.{over}
-use Rattle.rules.specs.Range.{range_in}
-use Rattle.rules.specs.Report.{bytes_of_ranges}
 use Rattle.report.proofs.put.put_ranges.Goals as goal
 
 pub loop-k-init : goal.loop-k-init

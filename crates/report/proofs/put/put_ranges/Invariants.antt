@@ -1,8 +1,7 @@
 -- k ranges are written.
-use mathlib.Core.Path.{◌≡◌, refl, ◌∙◌}
+use mathlib.Core.Path.{◌≡◌}
 use Prim.Native.Nat.{◌≤◌, ◌-◌}
 use lib.ListN.{length}
-use Rattle.rules.proofs.Written.{ranges_none, ranges_more, ranges_done}
 use Rattle.rules.specs.Bytes.{over}
 use Rattle.rules.specs.Range.{range_in}
 use Rattle.rules.specs.Report.{bytes_of_ranges}

@@ -1,4 +1,3 @@
-use borrow.Author.Rules.{rules}
 use Rattle.rules.proofs.Written.{report_written}
 use Rattle.report.proofs.put.put_report.Goals as goal
 

@@ -1,9 +1,4 @@
-use mathlib.Core.Path.{◌≡◌, refl}
-use Prim.Native.Nat.{◌-◌}
-use lib.ListN.{drop}
-use borrow.Author.Rules.{rules}
 use Rattle.rules.proofs.Scan.{find_here, find_next, find_end}
-use Rattle.rules.specs.Table.{records, find_from}
 use Rattle.table.proofs.find.find_from.Goals as goal
 
 pub returns-then-is_for : goal.returns-then-is_for

@@ -1,8 +1,7 @@
 -- what is left from record k on answers for the whole.
-use mathlib.Core.Path.{◌≡◌, refl}
+use mathlib.Core.Path.{◌≡◌}
 use Prim.Native.Nat.{◌-◌}
 use lib.ListN.{drop}
-use Rattle.rules.proofs.Scan.{find_here, find_next, find_end}
 use Rattle.rules.specs.Table.{records, find_from}
 use Rattle.table.proofs.find.find_from.Given as goal
 

@@ -1,5 +1,4 @@
 use mathlib.Core.Path.{ap, ◌∙◌}
-use borrow.Author.Rules.{rules}
 use Rattle.rules.specs.Identity.{same}
 use Rattle.table.proofs.find.is_for.Goals as goal
 

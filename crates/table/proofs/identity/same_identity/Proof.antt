@@ -1,8 +1,8 @@
 -- `same_identity` meets its contract: both marked and their segments equal, or neither marked. Assumes nothing.
-use mathlib.Core.Path.{◌≡◌, refl, ap}
+use Rattle.std.specs.Prelude.{if◌then◌else◌}
+use mathlib.Core.Path.{◌≡◌, refl}
 use mathlib.Core.Bool.{Bool, true, false, not, ◌&&◌, ◌||◌}
 use lib.Dec.{eqb}
-use Rattle.rules.specs.Bytes.{if◌then◌else◌}
 use Rattle.rules.specs.Identity.{same}
 use Rattle.rules.specs.declared.Identity.{Identity}
 use Rattle.table.proofs.identity.same_identity.Statement.{statement}

@@ -1,10 +1,5 @@
-use mathlib.Core.Path.{◌≡◌, refl}
-use mathlib.Core.Bool.{true}
-use Prim.Native.Nat.{◌/◌, ◌≤◌}
-use lib.ListN.{length, drop}
+use mathlib.Core.Path.{refl}
 use borrow.Author.Rules.{rules}
-use Rattle.rules.specs.Table.{record_bytes, records, distinct}
-use Rattle.table.specs.Slots.{marked}
 use Rattle.table.proofs.Slots.{length_marks, none_met, none_marked, sure, one_more_marked, one_more_differs, alike, all_differ}
 use Rattle.table.proofs.judge.identities_differ.Goals as goal
 

@@ -1,8 +1,7 @@
-use mathlib.Core.Path.{◌≡◌, ap, ◌∙◌}
+use mathlib.Core.Path.{◌≡◌}
 use mathlib.Core.Bool.{Bool}
 use mathlib.Core.List.{List}
 use Prim.Native.Nat.{ℕ}
-use borrow.Author.Rules.{rules}
 use Rattle.rules.proofs.Lookup.{nothing_all}
 use Rattle.rules.specs.Record.{Rec}
 use Rattle.rules.specs.Table.{identity, names_not, all, find_from, nothing}

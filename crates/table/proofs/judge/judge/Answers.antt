@@ -1,11 +1,9 @@
 -- a way out for each number.
-use mathlib.Core.Path.{◌≡◌, sym}
+use mathlib.Core.Path.{◌≡◌}
 use mathlib.Core.Bool.{Bool, true, false, not}
 use mathlib.Core.List.{List}
 use Prim.Native.Nat.{ℕ}
 use lib.ListN.{length}
-use borrow.Author.Rules.{rules}
-use borrow.Author.Tests.{not-true, not-false}
 use Rattle.rules.specs.Record.{record_ok}
 use Rattle.rules.specs.Table.{records, all, distinct, length_ok, table_number}
 use Rattle.table.proofs.judge.judge.Goals as goal

@@ -1,8 +1,7 @@
 -- what is left from record k on answers for the whole.
-use mathlib.Core.Path.{◌≡◌, refl}
+use mathlib.Core.Path.{◌≡◌}
 use Prim.Native.Nat.{◌≤◌, ◌-◌}
 use lib.ListN.{drop}
-use Rattle.rules.proofs.Scan.{all_stop, all_next, all_end}
 use Rattle.rules.specs.Record.{record_ok}
 use Rattle.rules.specs.Table.{records, all}
 use Rattle.table.proofs.judge.records_ok.Given as goal

@@ -1,6 +1,5 @@
 -- the length fits.
 use Prim.Native.Nat.{◌≤◌}
-use native.Mathlib.Omega.{arith}
 use borrow.Author.Rules.{rules}
 use Rattle.tdisp.proofs.Fits.{report_fits, shown}
 use Rattle.tdisp.proofs.reports.tdisp_write_report.Goals as goal

@@ -1,9 +1,8 @@
 -- 1 for yes, 0 for no.
+use Rattle.std.specs.Prelude.{if◌then◌else◌}
 use mathlib.Core.Path.{◌≡◌}
 use mathlib.Core.Bool.{Bool, true, false}
 use Prim.Native.Nat.{ℕ}
-use borrow.Author.Rules.{rules}
-use Rattle.rules.specs.Bytes.{if◌then◌else◌}
 use Rattle.tdisp_host.proofs.collect.tdisp_collector_finished.Goals as goal
 
 yes : (told b : Bool) → told ≡ b → told ≡ true → ◌≡◌ {A = ℕ} 1 (if b then 1 else 0)

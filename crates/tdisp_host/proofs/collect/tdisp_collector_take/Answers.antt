@@ -1,7 +1,6 @@
 -- the verdict's number.
 use mathlib.Core.Path.{◌≡◌}
 use Prim.Native.Nat.{ℕ}
-use borrow.Author.Rules.{rules}
 use Rattle.rules.specs.Collector.{portion_number}
 use Rattle.rules.specs.declared.PortionVerdict.{PortionVerdict}
 use Rattle.tdisp_host.proofs.collect.tdisp_collector_take.Goals as goal

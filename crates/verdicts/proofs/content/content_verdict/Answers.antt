@@ -3,7 +3,6 @@ use mathlib.Core.Path.{◌≡◌}
 use mathlib.Core.Bool.{Bool, true, false, not, ◌&&◌}
 use Prim.Native.Nat.{ℕ}
 use lib.Dec.{eqb}
-use borrow.Author.Rules.{rules}
 use Rattle.rules.specs.Bytes.{bits}
 use Rattle.rules.specs.Range.{all_attributes, all_pages, never_fall, ids_of}
 use Rattle.rules.specs.Report.{content_number}

@@ -1,6 +1,4 @@
-use mathlib.Core.Path.{◌≡◌}
 use native.Mathlib.Omega.{arith}
-use borrow.Author.Rules.{rules}
 use Rattle.rules.proofs.Sizes.{Sized, wrong_size, is_sized, not_zero, by_content}
 use Rattle.verdicts.proofs.read.read_verdict.Goals as goal
 

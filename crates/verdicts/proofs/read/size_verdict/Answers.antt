@@ -1,5 +1,4 @@
 -- a way out for each test.
-use borrow.Author.Rules.{rules}
 use Rattle.rules.proofs.Sizes.{too_short, too_many, no_room_for_ranges, too_much, no_room, longer, right_size}
 use Rattle.verdicts.proofs.read.size_verdict.Goals as goal
 

@@ -1,5 +1,4 @@
 -- a way out for each test.
-use borrow.Author.Rules.{rules}
 use Rattle.rules.proofs.Writes.{small_output, many_ranges, much_information, by_fields}
 use Rattle.verdicts.proofs.write.write_verdict.Goals as goal
 

@@ -1,4 +1,4 @@
-use Rattle.std.proofs.Common.{rules, refl, ◌≡◌, ◌+◌, ◌≤◌, ◌<◌, ℕ, List, length, take, set, get_or, arith, add-one, length-set}
+use Rattle.std.proofs.Common.{rules, ◌≡◌, ◌+◌, ◌≤◌, ◌<◌, ℕ, List, length, set, get_or, arith, add-one, length-set}
 use Rattle.std.proofs.Math.Seq.{paste, paste-suc, take-length}
 use Rattle.rules.specs.Bytes.{over}
 use Rattle.wire.proofs.copy.copy_over.Goals as goal

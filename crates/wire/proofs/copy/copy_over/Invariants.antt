@@ -1,11 +1,8 @@
 -- the loop has copied the first i bytes of `new`.
-use mathlib.Core.Path.{◌≡◌, refl, sym, ap, ◌∙◌}
-use mathlib.Core.List.{List, ◌++◌}
-use Prim.Native.Nat.{ℕ, ◌+◌, ◌≤◌, ◌<◌, ◌-◌}
-use native.Mathlib.Numerals.{add-one}
-use lib.ListN.{length, take, drop, set, get_or, length-set}
-use lib.Seq.{paste, paste-zero, paste-suc, take-length}
-use Rattle.rules.specs.Bytes.{over}
+use mathlib.Core.Path.{◌≡◌}
+use Prim.Native.Nat.{◌≤◌, ◌-◌}
+use lib.ListN.{length}
+use lib.Seq.{paste}
 use Rattle.wire.proofs.copy.copy_over.Given as goal
 
 abbrev pub invariant-loop-i : goal.invariant-loop-i

@@ -1,9 +1,8 @@
 -- the flag says whether the bytes passed are the same.
-use mathlib.Core.Path.{◌≡◌, ◌∙◌}
-use mathlib.Core.Logic.{⊎_elim}
+use mathlib.Core.Path.{◌≡◌}
 use Prim.Native.Nat.{◌≤◌, ◌-◌}
 use lib.ListN.{length}
-use Rattle.rules.specs.Bytes.{every, same_at, same_bytes}
+use Rattle.rules.specs.Bytes.{every, same_at}
 use Rattle.wire.proofs.same.same_bytes.Given as goal
 
 abbrev pub invariant-loop-i : goal.invariant-loop-i

@@ -1,6 +1,5 @@
 -- the flag says whether the bytes passed are zero.
-use mathlib.Core.Path.{◌≡◌, ◌∙◌}
-use mathlib.Core.Logic.{⊎_elim}
+use mathlib.Core.Path.{◌≡◌}
 use Prim.Native.Nat.{◌≤◌, ◌-◌}
 use Rattle.rules.specs.Bytes.{every, zero_at}
 use Rattle.wire.proofs.zero.bytes_zero.Given as goal

@@ -4,13 +4,11 @@ use mathlib.Core.Bool.{Bool}
 use mathlib.Core.List.{List, ◌∷◌}
 use Prim.Native.Nat.{ℕ}
 use lib.ListN.{replicate}
-use borrow.Author.Rules.{rules}
 use Rattle.rules.specs.Bytes.{blank}
 use Rattle.rules.specs.Call.{answered, Gives}
 use Rattle.rules.specs.Request.{lent}
 use Rattle.rules.specs.declared.Answer.{Answer}
 use Rattle.worked_requests.specs.Asked.{given, nonce_bytes}
-use Rattle.worked_requests.proofs.ask.ask.Goals as goal
 
 module _ (request table table' reply' map : List ℕ) (ready : Bool) (answer : Answer) where
   as_given :
