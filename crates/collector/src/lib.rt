@@ -95,6 +95,7 @@ impl Collector {
     }
 
     // Whether a reply is taken, or the first name that applies. Nothing is written.
+    #[tactic(auto, using(rules::proofs::Collections::other_interface, rules::proofs::Bools::and_left))]
     fn judge(self, reply: &[u8]) -> PortionVerdict
         ensures { result ≡ portion_verdict (kept self) reply.now }
     {

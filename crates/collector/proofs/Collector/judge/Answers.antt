@@ -1,7 +1,7 @@
 -- a way out for each name. `and_left` lets a test ask more, so that one that asks too much is refused where it tells a
 use borrow.Author.Rules.{rules}
 use Rattle.rules.proofs.Bools.{and_left}
-use Rattle.rules.proofs.Collections.{reply_long, reply_has_four, not_report, other_interface, other_length, total_different, total_over, is_taken_lem}
+use Rattle.rules.proofs.Collections.{reply_long, reply_has_four, not_report, other_length, total_different, total_over, is_taken_lem}
 use Rattle.collector.proofs.Collector.judge.Goals as goal
 
 pub returns-then-not-is_report_reply : goal.returns-then-not-is_report_reply
@@ -9,9 +9,6 @@ returns-then-not-is_report_reply c = search not_report
 
 pub identity_at-requires : goal.identity_at-requires
 identity_at-requires c = search (reply_has_four, rules)
-
-pub returns-then-not-same_identity : goal.returns-then-not-same_identity
-returns-then-not-same_identity c = search (other_interface, and_left)
 
 pub portion_said-requires : goal.portion_said-requires
 portion_said-requires c = search reply_long
