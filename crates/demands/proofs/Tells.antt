@@ -82,11 +82,11 @@ module _ (i : Identity) (t : List ℕ) (k : ℕ) (found : find i (records t) ≡
   long = wide i t k found
 
   -- what a request of a type leaves of the record
-  module _ (l : Lent) (kind length_of : ℕ) (asks : Asks i kind length_of l) (listed : exact_length kind ≡ length_of) (not_None : length_of ≡ 0 → ⊥)
+  module _ (l : Lent) (kind length_of : ℕ) (asks : Asks i kind length_of l) (listed : exact_length kind ≡ length_of) (not_none : length_of ≡ 0 → ⊥)
       (served-it : (answered l t).number ≡ 0) where
     told : verdict l.request (records t) ≡ Serve k
     told =
-        verdict_serves l.request (records t) k kind length_of asks.version_is asks.kind_is listed not_None asks.length_is
+        verdict_serves l.request (records t) k kind length_of asks.version_is asks.kind_is listed not_none asks.length_is
         (found_too i (identity_at l.request 4) (records t) k found asks.who_is)
 
     on_record : OnRecord l t k
