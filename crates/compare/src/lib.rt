@@ -12,7 +12,7 @@ use wire::copy::least;
 use wire::same::same_bytes;
 
 // Standard output.
-const STDOUT: i32 = 1;
+pub const STDOUT: i32 = 1;
 
 fn ends(same: bool) {
     if same {

@@ -3,11 +3,10 @@ ghost use Rattle.std.specs.Prelude.{◌≡◌, min, max, length};
 ghost use Rattle.io.specs.Digits.{IsDigitCount};
 ghost use Rattle.script.specs.Text.{trimmed};
 
+use compare::STDOUT;
 use script::text::trimmed;
 
-// Standard output and standard error.
-pub const STDOUT: i32 = 1;
-
+// Standard error.
 pub const STDERR: i32 = 2;
 
 // Text on standard output; how many bytes.

@@ -1,4 +1,4 @@
--- a way out for each check.
+-- A way out for each check.
 use Rattle.rules.proofs.Checks.{wrong_version, unlisted, wrong_length, known, unknown}
 use Rattle.checks.proofs.check_request.Goals as goal
 

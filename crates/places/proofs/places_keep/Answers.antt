@@ -1,4 +1,4 @@
--- a way out for each test.
+-- A way out for each test.
 use Rattle.places.proofs.OnePass.{too_many, none_keeps, all_keep}
 use Rattle.places.proofs.places_keep.Goals as goal
 

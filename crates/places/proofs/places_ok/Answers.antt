@@ -1,4 +1,4 @@
--- a way out for an offset that is no multiple, and one for each side of zero.
+-- A way out for an offset that is no multiple, and one for each side of zero.
 use native.Mathlib.Omega.{arith}
 use borrow.Author.Rules.{rules}
 use Rattle.places.proofs.Limits.{hold_small, lowered_fits, negated_fits, raised_fits, not_whole, end_lowered, start_raised}

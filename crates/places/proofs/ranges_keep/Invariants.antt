@@ -1,4 +1,4 @@
--- every range before the k-th is inside, their attributes are gathered, and `least` stands for their IDs.
+-- Every range before the k-th is inside, their attributes are gathered, and `least` stands for their IDs.
 use mathlib.Core.Path.{◌≡◌}
 use mathlib.Core.Bool.{true}
 use Prim.Native.Nat.{◌≤◌, ◌-◌}

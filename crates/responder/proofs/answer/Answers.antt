@@ -1,4 +1,4 @@
--- a law for each way out.
+-- A law for each way out.
 use mathlib.Core.Path.{◌≡◌}
 use Prim.Native.Nat.{◌<◌}
 use native.Mathlib.Omega.{arith}

@@ -1,4 +1,4 @@
--- an error, or the named record's.
+-- An error, or the named record's.
 use borrow.Author.Rules.{rules}
 use Rattle.rules.proofs.Checks.{within}
 use Rattle.responder.proofs.Answers.{an_error, a_record, right_length}

@@ -1,4 +1,4 @@
--- the table's refusals, then `answer`.
+-- The table's refusals, then `answer`.
 use Rattle.rules.proofs.Refusals.{judged_accepted}
 use Rattle.responder.proofs.Answers.{judged}
 use Rattle.responder.proofs.respond.Goals as goal

@@ -1,4 +1,4 @@
--- the record that is lent, written, is the record of the table.
+-- The record that is lent, written, is the record of the table.
 use borrow.Author.Rules.{rules}
 use Rattle.rules.proofs.Lending.{lent_length, lent_ok}
 use Rattle.responder.proofs.Answers.{record_back}

@@ -1,4 +1,4 @@
--- every ask leaves the table, and what is held grows up to 200.
+-- Every ask leaves the table, and what is held grows up to 200.
 use mathlib.Core.Path.{◌≡◌}
 use Prim.Native.Nat.{◌≤◌, ◌-◌}
 use Rattle.collector.specs.Kept.{kept}

@@ -1,4 +1,4 @@
--- the table's refusals, then `sweep`.
+-- The table's refusals, then `sweep`.
 use Rattle.rules.proofs.Refusals.{judged_accepted}
 use Rattle.changes.proofs.Happening.{event_refused, event_served}
 use Rattle.changes.proofs.event.happen.Goals as goal

@@ -1,4 +1,4 @@
--- the first k records are changed, and counted.
+-- The first k records are changed, and counted.
 use mathlib.Core.Path.{◌≡◌}
 use Prim.Native.Nat.{◌≤◌, ◌-◌}
 use lib.ListN.{length}

@@ -1,4 +1,4 @@
--- the table's refusals, then `write`.
+-- The table's refusals, then `write`.
 use Rattle.rules.proofs.Refusals.{judged_accepted}
 use Rattle.changes.proofs.Happening.{write_refused, write_served}
 use Rattle.changes.proofs.write.register_write.Goals as goal

@@ -1,4 +1,4 @@
--- the record that is lent, written, is the record of the table.
+-- The record that is lent, written, is the record of the table.
 use Rattle.rules.proofs.Lending.{lent_length}
 use Rattle.changes.proofs.Writing.{one_written}
 use Rattle.changes.proofs.write.write_at.Goals as goal

@@ -1,4 +1,4 @@
--- a reply that is refused leaves the collector, and one that is taken fits behind the bytes held.
+-- A reply that is refused leaves the collector, and one that is taken fits behind the bytes held.
 use mathlib.Core.Path.{◌≡◌, refl, sym, ap, ◌∙◌}
 use mathlib.Core.Bool.{false}
 use Prim.Native.Nat.{ℕ, ◌+◌, ◌≤◌}

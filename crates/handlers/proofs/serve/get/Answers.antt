@@ -1,4 +1,4 @@
--- a way out for each type.
+-- A way out for each type.
 use mathlib.Core.Path.{◌≡◌}
 use mathlib.Core.List.{List, []}
 use Prim.Native.Nat.{ℕ}

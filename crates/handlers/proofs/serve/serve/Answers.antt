@@ -1,4 +1,4 @@
--- a way out for each type.
+-- A way out for each type.
 use mathlib.Core.Path.{◌≡◌, refl, sym}
 use mathlib.Core.Bool.{Bool, true, false, not}
 use mathlib.Core.List.{List}

@@ -1,4 +1,4 @@
--- a way out for each check, and one where the lock is accepted.
+-- A way out for each check, and one where the lock is accepted.
 use mathlib.Core.Path.{◌≡◌, refl}
 use mathlib.Core.Bool.{Bool, true, false, not}
 use mathlib.Core.List.{List}

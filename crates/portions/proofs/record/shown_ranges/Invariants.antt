@@ -1,4 +1,4 @@
--- k ranges are filled.
+-- The first k ranges are filled.
 use mathlib.Core.Path.{◌≡◌}
 use Prim.Native.Nat.{◌≤◌, ◌-◌}
 use Rattle.rules.specs.Lock.{signed}

@@ -1,4 +1,4 @@
--- every range before the k-th stays.
+-- Every range before the k-th stays.
 use mathlib.Core.Path.{◌≡◌}
 use mathlib.Core.Bool.{true}
 use Prim.Native.Nat.{◌≤◌, ◌-◌}

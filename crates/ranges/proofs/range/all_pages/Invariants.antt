@@ -1,4 +1,4 @@
--- the pages of every range before the k-th keep their rule.
+-- The pages of every range before the k-th keep their rule.
 use mathlib.Core.Path.{◌≡◌}
 use mathlib.Core.Bool.{true}
 use Prim.Native.Nat.{◌≤◌, ◌-◌}

@@ -1,4 +1,4 @@
--- no ID before the k-th falls, and `least` stands for them all.
+-- No ID before the k-th falls, and `least` stands for them all.
 use mathlib.Core.Path.{◌≡◌}
 use mathlib.Core.Bool.{true}
 use Prim.Native.Nat.{◌≤◌, ◌-◌}

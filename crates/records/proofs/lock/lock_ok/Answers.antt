@@ -1,4 +1,4 @@
--- where the offset must be zero, it meets the lock's rule.
+-- Where the offset must be zero, it meets the lock's rule.
 use Rattle.std.specs.Prelude.{if◌then◌else◌}
 use mathlib.Core.Path.{◌≡◌, refl, sym, ap, ◌∙◌}
 use mathlib.Core.Bool.{Bool, true, false, not, ◌&&◌, ◌||◌}

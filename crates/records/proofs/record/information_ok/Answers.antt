@@ -1,4 +1,4 @@
--- nothing stands past 52 bytes of information.
+-- Nothing stands past 52 bytes of information.
 use mathlib.Core.Path.{◌≡◌, refl}
 use mathlib.Core.Bool.{Bool, true, false, ◌&&◌}
 use Prim.Native.Nat.{ℕ, ◌+◌, ◌≤◌, ◌<◌}

@@ -1,4 +1,4 @@
--- a way out for each group of tests.
+-- A way out for each group of tests.
 use mathlib.Core.Path.{◌≡◌, refl, sym, ap, ◌∙◌}
 use mathlib.Core.Bool.{Bool, true, false, not, ◌&&◌}
 use lib.Dec.{eqb, leb}

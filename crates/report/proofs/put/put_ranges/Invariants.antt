@@ -1,4 +1,4 @@
--- k ranges are written.
+-- The first k ranges are written.
 use mathlib.Core.Path.{◌≡◌}
 use Prim.Native.Nat.{◌≤◌, ◌-◌}
 use lib.ListN.{length}

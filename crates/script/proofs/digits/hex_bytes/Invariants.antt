@@ -1,4 +1,4 @@
--- what is left, after the bytes so far, answers for the whole.
+-- What is left, after the bytes so far, answers for the whole.
 use Prim.Native.Nat.{◌≤◌, ◌-◌, ◌*◌}
 use lib.ListN.{length}
 use Rattle.script.proofs.HexBytes.{Left}

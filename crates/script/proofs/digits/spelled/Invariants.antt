@@ -1,4 +1,4 @@
--- what is left, after the value so far, answers for the whole.
+-- What is left, after the value so far, answers for the whole.
 use mathlib.Core.Path.{◌≡◌}
 use Prim.Native.Nat.{◌≤◌, ◌-◌}
 use lib.ListN.{length, drop}

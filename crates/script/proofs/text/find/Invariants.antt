@@ -1,4 +1,4 @@
--- what is left from i on answers for the whole.
+-- What is left from i on answers for the whole.
 use Prim.Native.Nat.{◌-◌}
 use lib.Dec.{eqb}
 use lib.ListN.{length}

@@ -1,4 +1,4 @@
--- what is left from i on answers for the whole.
+-- What is left from i on answers for the whole.
 use Prim.Native.Nat.{◌-◌}
 use lib.ListN.{length}
 use Rattle.script.specs.Text.{space_is}

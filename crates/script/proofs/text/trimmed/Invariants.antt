@@ -1,4 +1,4 @@
--- what the first n bytes are trimmed to is what all are.
+-- What the first n bytes are trimmed to is what all are.
 use mathlib.Core.Path.{◌≡◌}
 use Prim.Native.Nat.{◌≤◌}
 use lib.ListN.{length}

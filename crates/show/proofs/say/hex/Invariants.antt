@@ -1,4 +1,4 @@
--- the loop ends at the last byte.
+-- The loop ends at the last byte.
 use Prim.Native.Nat.{◌≤◌, ◌-◌}
 use lib.ListN.{length}
 use Rattle.show.proofs.say.hex.Given as goal

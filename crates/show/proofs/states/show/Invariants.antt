@@ -1,4 +1,4 @@
--- every record is lent whole.
+-- Every record is lent whole.
 use Prim.Native.Nat.{◌≤◌, ◌-◌}
 use Rattle.show.proofs.states.show.Given as goal
 

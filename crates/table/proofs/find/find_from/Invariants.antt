@@ -1,4 +1,4 @@
--- what is left from record k on answers for the whole.
+-- What is left from record k on answers for the whole.
 use mathlib.Core.Path.{◌≡◌}
 use Prim.Native.Nat.{◌-◌}
 use lib.ListN.{drop}

@@ -1,4 +1,4 @@
--- the records from k on differ, and their slots are marked.
+-- The records from k on differ, and their slots are marked.
 use mathlib.Core.Path.{◌≡◌}
 use mathlib.Core.Bool.{true}
 use Prim.Native.Nat.{◌/◌, ◌≤◌}

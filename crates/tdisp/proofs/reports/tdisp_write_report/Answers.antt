@@ -1,4 +1,4 @@
--- the length fits.
+-- The length fits.
 use Prim.Native.Nat.{◌≤◌}
 use borrow.Author.Rules.{rules}
 use Rattle.tdisp.proofs.Fits.{report_fits, shown}

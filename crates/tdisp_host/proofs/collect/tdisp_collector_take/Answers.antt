@@ -1,4 +1,4 @@
--- the verdict's number.
+-- The verdict's number.
 use mathlib.Core.Path.{◌≡◌}
 use Prim.Native.Nat.{ℕ}
 use Rattle.rules.specs.Collector.{portion_number}

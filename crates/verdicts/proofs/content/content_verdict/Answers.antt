@@ -1,4 +1,4 @@
--- a way out for each number.
+-- A way out for each number.
 use mathlib.Core.Path.{◌≡◌}
 use mathlib.Core.Bool.{Bool, true, false, not, ◌&&◌}
 use Prim.Native.Nat.{ℕ}

@@ -1,4 +1,4 @@
--- a way out for each test.
+-- A way out for each test.
 use Rattle.rules.proofs.Sizes.{too_short, too_many, no_room_for_ranges, too_much, no_room, longer, right_size}
 use Rattle.verdicts.proofs.read.size_verdict.Goals as goal
 

@@ -1,4 +1,4 @@
--- a way out for each test.
+-- A way out for each test.
 use Rattle.rules.proofs.Writes.{small_output, many_ranges, much_information, by_fields}
 use Rattle.verdicts.proofs.write.write_verdict.Goals as goal
 

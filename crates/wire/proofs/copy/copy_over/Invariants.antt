@@ -1,4 +1,4 @@
--- the loop has copied the first i bytes of `new`.
+-- The loop has copied the first i bytes of `new`.
 use mathlib.Core.Path.{◌≡◌}
 use Prim.Native.Nat.{◌≤◌, ◌-◌}
 use lib.ListN.{length}

@@ -1,4 +1,4 @@
--- the flag says whether the bytes passed are the same.
+-- The flag says whether the bytes passed are the same.
 use mathlib.Core.Path.{◌≡◌}
 use Prim.Native.Nat.{◌≤◌, ◌-◌}
 use lib.ListN.{length}

@@ -1,4 +1,4 @@
--- the flag says whether the bytes passed are zero.
+-- The flag says whether the bytes passed are zero.
 use mathlib.Core.Path.{◌≡◌}
 use Prim.Native.Nat.{◌≤◌, ◌-◌}
 use Rattle.rules.specs.Bytes.{every, zero_at}
