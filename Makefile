@@ -9,6 +9,8 @@ ARCHIVE = target/tdisp/libtdisp.a
 HOST_ARCHIVE = target/tdisp/libtdisp_host.a
 BUILT = $(ARCHIVE) $(HOST_ARCHIVE) target/tdisp/tdisp.h target/tdisp/tdisp_host.h
 OBJCOPY ?= objcopy
+# Of the processor nothing is asked beyond x86-64 itself: the kit's default wants x86-64-v2, and an archive cannot check what it runs on.
+CPU = --cpu x86-64
 
 test:
 	@rt version
@@ -21,7 +23,9 @@ names:
 # Both archives have the report reader; the host's is weak, so that a program may link both, in any order.
 lib:
 	@mkdir -p target/tdisp
-	@for crate in tdisp tdisp_host; do (cd crates/$$crate && rt lib) > target/lib.log 2>&1 || { cat target/lib.log; exit 1; }; done
+	@for crate in tdisp tdisp_host; do \
+	    { (cd crates/$$crate && rt lib $(CPU)) > target/lib.log 2>&1 && ! grep '^logic=.* cpu=' target/lib.log; } || { cat target/lib.log; exit 1; }; \
+	done
 	@cp crates/tdisp/out/libtdisp.a crates/tdisp_host/out/libtdisp_host.a c/tdisp.h c/tdisp_host.h target/tdisp/
 	@$(OBJCOPY) --weaken-symbol=tdisp_read_report $(HOST_ARCHIVE)
 	@echo "target/tdisp has libtdisp.a and tdisp.h, libtdisp_host.a and tdisp_host.h"
@@ -43,7 +47,7 @@ $(BUILT):
 # The program: proved, built, and run once without arguments, which shows the demo.
 card:
 	@mkdir -p target/bin
-	@(cd crates/card && rt run) > target/demo 2> target/card.log < /dev/null || { cat target/card.log; exit 1; }
+	@(cd crates/card && rt run $(CPU)) > target/demo 2> target/card.log < /dev/null || { cat target/card.log; exit 1; }
 	@cp crates/card/out/card target/bin/card
 
 demo: card
