@@ -133,20 +133,27 @@ def closing(text, at):
 
 
 def head(text, at):
-    """A function from its place to its body: the first brace that opens no clause of its contract. A clause may have a name."""
+    """A function from its place to its body: the first brace that opens no clause of its contract. A clause may have a name. A trait's function may have
+    no body, and ends before its semicolon."""
     end = closing(text, text.index("(", at))
     while True:
-        brace = text.find("{", end)
-        if brace < 0:
+        stop = re.compile(r"[{;(\[]").search(text, end)
+        if not stop:
             return text[at:]
+        brace = stop.start()
+        if stop.group(0) in "([":
+            end = closing(text, brace)
+            continue
+        if stop.group(0) == ";":
+            return text[at:brace]
         if not re.search(r"\b(?:requires|ensures|measure|decreases)(?: \w+)?\s*$", text[at:brace]):
             return text[at:brace]
         end = closing(text, brace)
 
 
 def blocks(text):
-    """Each `impl` block: where it begins and ends, and the type's name."""
-    return [(m.start(), closing(text, m.end() - 1), m.group(1)) for m in re.finditer(r"^ *impl(?:<[^>]*>)? (\w+)[^{\n]*\{", text, re.M)]
+    """Each trait and each `impl` block: where it begins and ends, and the name of the trait, or of the type that has the functions itself."""
+    return [(m.start(), closing(text, m.end() - 1), m.group(1)) for m in re.finditer(r"^ *(?:impl(?:<[^>]*>)?|(?:pub )?trait) (\w+)[^{\n]*\{", text, re.M)]
 
 
 def named(table, prefix, name, item):
@@ -167,7 +174,7 @@ def promises(path, text):
 
 
 def ending(text, at, word):
-    """Where a type or a constant ends: after its semicolon, or after the braces of a struct or an enum."""
+    """Where a type or a constant ends: after its semicolon, or after the braces of a struct, an enum or a trait."""
     while True:
         found = re.compile(r"[;({\[]|%s|%s" % (STRING, QUOTED)).search(text, at)
         if not found:
@@ -175,7 +182,7 @@ def ending(text, at, word):
         if found.group(0) == ";":
             return found.end()
         at = closing(text, found.start()) if found.group(0) in "({[" else found.end()
-        if found.group(0) == "{" and word in ("struct", "enum"):
+        if found.group(0) == "{" and word in ("struct", "enum", "trait"):
             return at
 
 
@@ -183,7 +190,7 @@ def types(path, text):
     items, prefix = {}, module_of(path)
     text = without_comments(text, "//")
     origin = imports(text)
-    for found in re.finditer(r"^ *((?:#\[.*\]\s*)*)((?:pub(?:\([a-z]+\))? )?(struct|enum|const|type) (\w+))", text, re.M):
+    for found in re.finditer(r"^ *((?:#\[.*\]\s*)*)((?:pub(?:\([a-z]+\))? )?(struct|enum|trait|const|type) (\w+))", text, re.M):
         item = squeezed(found.group(1) + text[found.start(2):ending(text, found.end(), found.group(3))])
         named(items, prefix, found.group(4), with_origins(item, origin))
     return items

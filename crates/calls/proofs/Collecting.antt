@@ -1,50 +1,29 @@
 -- A report, collected: the request, the table after it, and what the collector holds. Assumes nothing.
-use Rattle.std.specs.Prelude.{if◌then◌else◌}
-use mathlib.Core.Bool.{Bool, true, false}
-use mathlib.Core.List.{List, ◌∷◌}
-use mathlib.Core.Path.{◌≡◌, refl, sym, ap, ◌∙◌}
-use Prim.Native.Nat.{ℕ, ◌-◌, ◌≤◌, ◌<◌, min}
-use native.Mathlib.Omega.{arith}
-use lib.ListN.{length, take, drop}
-use Rattle.rules.specs.Bytes.{bytes_of, blank, over}
+use Rattle.std.specs.Prelude.{if◌then◌else◌, Result}
+use Rattle.std.proofs.Common.{ℕ, ◌≤◌, ◌<◌, Bool, true, false, List, ◌≡◌, refl, sym, ap, ◌∙◌, take, arith}
+use Rattle.compare.specs.Requests.{report_request}
 use Rattle.rules.specs.Call.{answer_value, step}
 use Rattle.rules.specs.Collector.{Collection, fresh, next_offset, finished, portion_verdict, is_taken, grown, collected}
 use Rattle.rules.specs.Report.{most_report}
 use Rattle.rules.specs.Request.{kind_of}
-use Rattle.rules.specs.declared.Answer.{Answer}
-use Rattle.rules.specs.declared.PortionVerdict.{PortionVerdict}
 use Rattle.rules.proofs.Collections.{takes}
 use Rattle.rules.proofs.ServedCall.{report_leaves}
 use Rattle.script.specs.declared.settings.Settings.{Settings}
-use Rattle.calls.specs.Made.{request_by, Gets, report_request, reply_of, asked_once, Asks, stops, ends, goes_on}
-use Rattle.calls.proofs.Making.{front}
+use Rattle.calls.specs.Made.{request_by, Gets, reply_of, asked_once, Asks, stops, ends, goes_on}
+use Rattle.rules.specs.declared.Refusal.{Refusal}
 
--- the fields, written one after the other over zeros
-pub is_request : (id offset asked : ℕ) (a b r : List ℕ) → a ≡ over 4 (bytes_of 4 id) (0x10 ∷ 0x84 ∷ blank 18) → b ≡ over 16 (bytes_of 2 offset) a
-    → r ≡ over 18 (bytes_of 2 asked) b → r ≡ report_request id offset asked
-unfolding over bytes_of
-is_request id offset asked a b r e f g = g ∙ rw (f, e)
+-- a request for a report leaves the table
+pub table_stays : (q buffer t t' : List ℕ) (s : Settings) (r : Result ℕ Refusal) → Gets (step (request_by q s) t) r buffer t'
+    → (id offset asked : ℕ) → q ≡ report_request id offset asked → t' ≡ t
+table_stays q buffer t t' s r g id offset asked e = g.table_is ∙ report_leaves _ t (ap kind_of e)
 
--- one ask, by a request q
-module _ (q buffer t t' : List ℕ) (s : Settings) (r : Answer) (g : Gets (step (request_by q s) t) r buffer t') where
-  -- leaves the table
-  pub table_stays : (id offset asked : ℕ) → q ≡ report_request id offset asked → t' ≡ t
-  table_stays id offset asked e = g.table_is ∙ report_leaves _ t (ap kind_of e)
-
-  -- and gives the collector its reply
-  pub asked_once_lem : (c d : Collection) (offset asked n : ℕ) → offset ≡ next_offset c → q ≡ report_request c.id offset asked → n ≡ answer_value r
-      → d ≡ collected c (take n buffer) → d ≡ asked_once c asked s t
-  asked_once_lem c d offset asked n o e f h =
-      h ∙ ap (collected c) (rw (f, g.value_is, g.buffer_is))
-      ∙ ap (λ (p : List ℕ). collected c (reply_of (step (request_by p s) t))) (e ∙ ap (λ (k : ℕ). report_request c.id k asked) o)
-
--- the reply at the front of a buffer
-module _ (c : Collection) (buffer : List ℕ) (n end : ℕ) (e : end ≡ min n (length buffer)) where
-  pub judged_front : (v : PortionVerdict) → v ≡ portion_verdict c (take (end - 0) (drop 0 buffer)) → v ≡ portion_verdict c (take n buffer)
-  judged_front v f = rw (front buffer n end e) at f
-
-  pub given_front : (d : Collection) → d ≡ collected c (take (end - 0) (drop 0 buffer)) → d ≡ collected c (take n buffer)
-  given_front d f = rw (front buffer n end e) at f
+-- and gives the collector its reply
+pub asked_once_lem : (q buffer t t' : List ℕ) (s : Settings) (r : Result ℕ Refusal) → Gets (step (request_by q s) t) r buffer t'
+    → (c d : Collection) (offset asked n : ℕ) → offset ≡ next_offset c → q ≡ report_request c.id offset asked → n ≡ answer_value r
+    → d ≡ collected c (take n buffer) → d ≡ asked_once c asked s t
+asked_once_lem q buffer t t' s r g c d offset asked n o e f h =
+    h ∙ ap (collected c) (rw (f, g.value_is, g.buffer_is))
+    ∙ ap (λ (p : List ℕ). collected c (reply_of (step (request_by p s) t))) (e ∙ ap (λ (k : ℕ). report_request c.id k asked) o)
 
 -- 200 bytes at most are held, whatever is replied
 most_held : (c : Collection) (p : List ℕ) → c.held ≤ most_report → (collected c p).held ≤ most_report

@@ -1,4 +1,3 @@
 -- Laws that belong to no one function.
 pub mod Making
 pub mod Collecting
-pub mod Running

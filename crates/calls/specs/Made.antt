@@ -1,37 +1,35 @@
 -- A line of a script, run: its call by the step of rules, the settings and the table after it. Assumes nothing.
-use Rattle.std.specs.Prelude.{Bool, true, false, List, [], ◌∷◌, ◌++◌, ◌≡◌, ℕ, ◌≤◌, ◌<◌, take}
-use Rattle.rules.specs.Bytes.{bytes_of, blank, over}
+use Rattle.std.specs.Prelude.{Bool, true, false, List, ◌≡◌, ℕ, ◌≤◌, ◌<◌, take, Result, Ok, Err}
+use Rattle.compare.specs.Requests.{report_request}
+use Rattle.rules.specs.Bytes.{blank, over}
 use Rattle.rules.specs.Call as rules
 use Rattle.rules.specs.Collector.{Collection, next_offset, finished, collected}
 use Rattle.rules.specs.Request.{Lent, lent}
-use Rattle.rules.specs.declared.Answer.{Answer}
 use Rattle.script.specs.Line.{Reading}
-use Rattle.script.specs.Settings.{set_by}
+use Rattle.script.specs.Settings.{given, set_by}
+use Rattle.script.specs.declared.digits.Wrong.{Wrong}
 use Rattle.script.specs.declared.line.Call.{Call}
 use Rattle.script.specs.declared.line.Line.{Line}
 use Rattle.script.specs.declared.settings.Settings.{Settings}
+use Rattle.rules.specs.declared.Refusal.{Refusal}
 
 -- what a request is lent: the settings give all but the message and the reply buffer
 abbrev pub lent_by : List ℕ → List ℕ → Settings → Lent
 lent_by request reply s =
-    lent request reply (take s.nonce_bytes s.nonce) s.ready (take s.stream_bytes s.streams) s.session
+    lent request reply (given s.nonce) s.ready (given s.streams) s.session
 
 -- a request, with a blank reply buffer of the length that is set
 abbrev pub request_by : List ℕ → Settings → rules.Call
 request_by request s = rules.Request (lent_by request (take s.reply_bytes (blank 512)) s)
 
 -- what a function that makes a request returns and leaves: the reply buffer stands at the front of 512 bytes, of which the rest stays blank
-pub record Gets (o : rules.Outcome) (r : Answer) (buffer table : List ℕ) : Type 0 where
+pub record Gets (o : rules.Outcome) (r : Result ℕ Refusal) (buffer table : List ℕ) : Type 0 where
   pub number_is : rules.answer_number r ≡ o.number
   pub value_is : rules.answer_value r ≡ o.value
   pub buffer_is : buffer ≡ over 0 o.reply (blank 512)
   pub table_is : table ≡ o.table
 
 -- ---- a report, collected
-
--- GET_DEVICE_INTERFACE_REPORT: the header, OFFSET, LENGTH
-abbrev pub report_request : ℕ → ℕ → ℕ → List ℕ
-report_request id offset asked = (0x10 ∷ 0x84 ∷ 0 ∷ 0 ∷ []) ++ bytes_of 4 id ++ blank 8 ++ bytes_of 2 offset ++ bytes_of 2 asked
 
 -- the reply to a request: as many of those bytes as the length says
 abbrev pub reply_of : rules.Outcome → List ℕ
@@ -58,32 +56,30 @@ table_left (Call.Collect id asked) bytes s t = t
 table_left (Call.Happen event) bytes s t = (rules.step (rules.DeviceWide event) t).table
 table_left Call.Firmware bytes s t = (rules.step rules.FirmwareQuestion t).table
 
--- ---- a line, by what it says and its bytes
+-- ---- a line, by what it says, or what is wrong with it, and its bytes
 
-abbrev pub good_line : Line → Bool
-good_line Line.Empty = true
-good_line (Line.Bad wrong) = false
-good_line (Line.Set setting) = true
-good_line (Line.Do call) = true
+abbrev pub good_line : Result Line Wrong → Bool
+good_line (Ok line) = true
+good_line (Err wrong) = false
 
 abbrev pub is_good : Reading → Bool
 is_good r = good_line r.line
 
 -- only a setting line changes the settings, and only a call the table
-abbrev pub settings_by : Line → List ℕ → Settings → Settings
-settings_by Line.Empty bytes s = s
-settings_by (Line.Bad wrong) bytes s = s
-settings_by (Line.Set setting) bytes s = set_by setting bytes s
-settings_by (Line.Do call) bytes s = s
+abbrev pub settings_by : Result Line Wrong → List ℕ → Settings → Settings
+settings_by (Ok Line.Empty) bytes s = s
+settings_by (Ok (Line.Set setting)) bytes s = set_by setting bytes s
+settings_by (Ok (Line.Do call)) bytes s = s
+settings_by (Err wrong) bytes s = s
 
 abbrev pub settings_after : Reading → Settings → Settings
 settings_after r s = settings_by r.line r.out s
 
-abbrev pub table_by : Line → List ℕ → Settings → List ℕ → List ℕ
-table_by Line.Empty bytes s t = t
-table_by (Line.Bad wrong) bytes s t = t
-table_by (Line.Set setting) bytes s t = t
-table_by (Line.Do call) bytes s t = table_left call bytes s t
+abbrev pub table_by : Result Line Wrong → List ℕ → Settings → List ℕ → List ℕ
+table_by (Ok Line.Empty) bytes s t = t
+table_by (Ok (Line.Set setting)) bytes s t = t
+table_by (Ok (Line.Do call)) bytes s t = table_left call bytes s t
+table_by (Err wrong) bytes s t = t
 
 abbrev pub table_after : Reading → Settings → List ℕ → List ℕ
 table_after r s t = table_by r.line r.out s t

@@ -5,48 +5,39 @@ ghost use Rattle.rules.specs.Bytes.{blank};
 ghost use Rattle.script.specs.Line.{line_of};
 
 use crate::make::make;
-use script::digits::Wrong;
 use script::line::{Line, read};
 use script::settings::{Settings, set};
 use show::names;
-use show::say::{STDERR, warn, warn_name};
 
-// A bad line, named by its number.
-fn name_bad(number: u64, why: Wrong) {
-    warn(b"script line ");
-    io::print_decimal(STDERR, number);
-    warn(b": ");
-    warn_name(names::wrong(why));
-    warn(b"; nothing was run\n");
-}
-
-// Whether a line is good; a bad one is named.
-pub fn good(line: &[u8], number: u64) -> bool
+// Whether a line is good; a bad one is named by its number.
+pub fn good<R: Eprint>(rt: &R, line: &[u8], number: u64) -> bool
     ensures { result ≡ is_good (line_of line.now (blank 512)) }
 {
+    // No heap, here and below: a line's bytes stand in an array of the longest request's length.
     let mut bytes = [0u8; 512];
     match read(line, &mut bytes) {
-        Line::Bad(why) => {
-            name_bad(number, why);
+        Ok(_) => true,
+        Err(why) => {
+            let _ = eprintln!(rt;
+                "script line {number}: {}; nothing was run",
+                names::wrong(why)
+            );
             false
         }
-        Line::Empty => true,
-        Line::Set(_) => true,
-        Line::Do(_) => true,
     }
 }
 
 // A line, run: the settings after it, and the table after it. A bad one does nothing.
-pub fn run_line(line: &[u8], s: Settings, table: &mut [u8]) -> Settings
-    ensures { (result ≡ settings_after (line_of line.now (blank 512)) s) × (table.new ≡ table_after (line_of line.now (blank 512)) s table.old) }
+pub fn run_line<R: Print>(rt: &R, line: &[u8], s: Settings, table: &mut [u8]) -> Settings
+    ensures settings { result ≡ settings_after (line_of line.now (blank 512)) s }
+    ensures table { table.new ≡ table_after (line_of line.now (blank 512)) s table.old }
 {
     let mut bytes = [0u8; 512];
     match read(line, &mut bytes) {
-        Line::Empty => s,
-        Line::Bad(_) => s,
-        Line::Set(setting) => set(setting, &bytes, s),
-        Line::Do(call) => {
-            make(call, &bytes, s, table);
+        Ok(Line::Empty) | Err(_) => s,
+        Ok(Line::Set(setting)) => set(setting, &bytes, s),
+        Ok(Line::Do(call)) => {
+            make(rt, call, &bytes, s, table);
             s
         }
     }

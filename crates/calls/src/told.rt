@@ -1,153 +1,130 @@
 // What is shown of a call and of its answer.
 use rules::report::{PORTION_LENGTH, REMAINDER_LENGTH};
-use rules::{Answer, Event, FirmwareAnswer, PortionVerdict, ReadReport, Refusal};
-use show::say::{decimal, hex, name, number, say};
+use rules::{
+    Answer, Event, FirmwareAnswer, Numbered, PortionRefusal, Refusal, ReportFields, ReportRefusal,
+};
+use show::form::{FunctionId, Hex};
 use show::{names, reply, states};
-use wire::number::num16;
+use std::fmt;
+use wire::number::LowFirst;
 
-// Why a call is refused.
-fn refused(why: Refusal) {
-    say(b", refused: ");
-    name(names::refusal(why));
-    say(b"; ");
+// A call's number, and why it is refused, if it is.
+#[derive(Clone, Copy)]
+struct Verdict(Option<Refusal>);
+
+impl fmt::Display for Verdict {
+    fn fmt<W: fmt::Write>(&self, f: &mut fmt::Formatter<W>) -> fmt::Result {
+        match self.0 {
+            None => f.write_str("number 0, served"),
+            Some(why) => write!(
+                f,
+                "number {}, refused: {}",
+                why.number(),
+                names::refusal(why)
+            ),
+        }
+    }
 }
 
 // The answer's number, why if it is a refusal, and the length or count.
-pub(crate) fn answered(answer: Answer, what: &[u8]) {
-    say(b"  number ");
-    decimal(answer.number() as u64);
-    match answer {
-        Answer::Served(_) => {
-            say(b", served; ");
-        }
-        Answer::Refused(why) => refused(why),
-    }
-    say(what);
-    decimal(answer.value() as u64);
-    say(b"\n");
+pub(crate) fn answered<R: Print>(rt: &R, answer: Answer, what: &str) {
+    let verdict = Verdict(answer.err());
+    let _ = println!(rt; "  {verdict}; {what} {}", answer.unwrap_or(0));
 }
 
 // A change's answer, and the states after it.
-pub(crate) fn moved(answer: Answer, table: &[u8]) {
-    answered(answer, b"moved ");
-    states::show(table);
+pub(crate) fn moved<R: Print>(rt: &R, answer: Answer, table: &[u8]) {
+    answered(rt, answer, "moved");
+    states::show(rt, table);
 }
 
 // The firmware question's number, why if it is a refusal, and the answer.
-pub(crate) fn asked(answer: FirmwareAnswer) {
-    say(b"  number ");
-    decimal(answer.number() as u64);
-    match answer {
-        FirmwareAnswer::Yes => {
-            say(b", served; answer yes\n");
-        }
-        FirmwareAnswer::No => {
-            say(b", served; answer no\n");
-        }
-        FirmwareAnswer::Refused(why) => {
-            refused(why);
-            say(b"answer no\n");
-        }
-    }
+pub(crate) fn asked<R: Print>(rt: &R, answer: FirmwareAnswer) {
+    let verdict = Verdict(answer.err());
+    let word = if answer.unwrap_or(false) { "yes" } else { "no" };
+    let _ = println!(rt; "  {verdict}; answer {word}");
 }
 
 // A request's name, length and bytes.
-pub(crate) fn request(bytes: &[u8]) {
-    say(b"request ");
-    if bytes.len() > 1 {
-        name(names::request(bytes[1]));
-        say(b", ");
+pub(crate) fn request<R: Print>(rt: &R, bytes: &[u8]) {
+    let _ = print!(rt; "request ");
+    if let Some(kind) = bytes.get(1) {
+        let _ = print!(rt; "{}, ", names::request(*kind));
     }
-    decimal(bytes.len() as u64);
-    say(b" bytes:");
-    hex(bytes);
-    say(b"\n");
+    let _ = println!(rt; "{} bytes:{}", bytes.len(), Hex(bytes));
 }
 
 // A register write's interface and class.
-pub(crate) fn write(function_id: u32, class: u8) {
-    say(b"register-write ");
-    number(function_id as u64, 4);
-    numbered(b" class ", class as u64);
-}
-
-// The rest of a line that ends in a number.
-fn numbered(text: &[u8], n: u64) {
-    say(text);
-    decimal(n);
-    say(b"\n");
+pub(crate) fn write<R: Print>(rt: &R, function_id: u32, class: u8) {
+    let _ = println!(rt; "register-write {} class {class}", FunctionId(function_id));
 }
 
 // A device-wide event.
-pub(crate) fn event(event: Event) {
-    match event {
-        Event::Multicast => {
-            say(b"multicast\n");
-        }
-        Event::StreamDown(stream) => numbered(b"stream-down ", stream.0 as u64),
-        Event::SessionEnd(session) => numbered(b"session-end ", session.0 as u64),
-    }
+pub(crate) fn event<R: Print>(rt: &R, event: Event) {
+    let _ = match event {
+        Event::Multicast => println!(rt; "multicast"),
+        Event::StreamDown(stream) => println!(rt; "stream-down {}", stream.0),
+        Event::SessionEnd(session) => println!(rt; "session-end {}", session.0),
+    };
+}
+
+// The firmware question.
+pub(crate) fn firmware<R: Print>(rt: &R) {
+    let _ = println!(rt; "firmware");
 }
 
 // A collect's interface and LENGTH.
-pub(crate) fn collect(function_id: u32, length: u16) {
-    say(b"collect ");
-    number(function_id as u64, 4);
-    numbered(b" LENGTH ", length as u64);
+pub(crate) fn collect<R: Print>(rt: &R, function_id: u32, length: u16) {
+    let _ = println!(rt; "collect {} LENGTH {length}", FunctionId(function_id));
 }
 
 // A portion that was taken. One of no bytes moves nothing, and asked again would be the same.
-fn portion(buffer: &[u8; 512]) {
-    let n = num16(buffer, PORTION_LENGTH);
-    say(b"portion ");
-    decimal(n as u64);
-    numbered(b", remainder ", num16(buffer, REMAINDER_LENGTH) as u64);
+fn portion<R: Print>(rt: &R, buffer: &[u8; 512]) {
+    let n = u16::read(buffer, PORTION_LENGTH);
+    let _ = println!(rt;
+        "portion {n}, remainder {}",
+        u16::read(buffer, REMAINDER_LENGTH)
+    );
     if n == 0 {
-        say(b"  nothing moved, so no more is asked\n");
+        let _ = println!(rt; "  nothing moved, so no more is asked");
     }
 }
 
 // A reply that the collector refused, with its fields.
-fn untaken(answer: Answer, why: PortionVerdict, buffer: &[u8; 512]) {
-    say(b"refused by the collector: ");
-    name(names::portion(why));
-    say(b"\n");
-    answered(answer, b"length ");
-    reply::show(buffer, answer.value());
+fn untaken<R: Print>(rt: &R, answer: Answer, why: PortionRefusal, buffer: &[u8; 512]) {
+    let _ = println!(rt; "refused by the collector: {}", names::portion(Err(why)));
+    answered(rt, answer, "length");
+    reply::show(rt, buffer, answer.unwrap_or(0));
 }
 
-// What came of a collect's ask: no reply, one that was refused, or a portion.
-pub(crate) fn ask(offset: u16, answer: Answer, verdict: PortionVerdict, buffer: &[u8; 512]) {
-    say(b"  OFFSET ");
-    decimal(offset as u64);
-    say(b": ");
-    if answer.number() != 0 {
-        say(b"no reply\n");
-        answered(answer, b"length ");
-        return;
+// What came of a collect's ask: no reply, a portion, or a reply that was refused.
+pub(crate) fn ask<R: Print>(
+    rt: &R,
+    offset: u16,
+    answer: Answer,
+    verdict: Result<(), PortionRefusal>,
+    buffer: &[u8; 512],
+) {
+    let _ = print!(rt; "  OFFSET {offset}: ");
+    match (answer, verdict) {
+        (Err(_), _) => {
+            let _ = println!(rt; "no reply");
+            answered(rt, answer, "length");
+        }
+        (_, Ok(())) => portion(rt, buffer),
+        (_, Err(why)) => untaken(rt, answer, why, buffer),
     }
-    if verdict.number() != 0 {
-        untaken(answer, verdict, buffer);
-        return;
-    }
-    portion(buffer);
 }
 
 // A report's bytes, and its fields as they were read, or the number of the reader's refusal.
-pub(crate) fn whole(s: &[u8], read: ReadReport) {
-    say(b"  report, ");
-    decimal(s.len() as u64);
-    say(b" bytes:");
-    hex(s);
-    say(b"\n");
-    let verdict = read.verdict;
-    let fields = read.fields;
-    if verdict.number() != 0 {
-        numbered(
-            b"    refused by the reader: number ",
-            verdict.number() as u64,
-        );
-        return;
+pub(crate) fn whole<R: Print>(rt: &R, s: &[u8], read: Result<ReportFields, ReportRefusal>) {
+    let _ = println!(rt; "  report, {} bytes:{}", s.len(), Hex(s));
+    match read {
+        Ok(fields) => {
+            show::report::show(rt, fields, s);
+        }
+        Err(why) => {
+            let _ = println!(rt; "    refused by the reader: number {}", why.number());
+        }
     }
-    show::report::show(fields, s);
 }

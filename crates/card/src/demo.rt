@@ -1,13 +1,10 @@
 // The embedded card: interface 0100h with six ranges and 20 bytes of information, 0101h in RUN on stream 5, and 0102h.
 use crate::replay::run;
-use show::say::say;
 use show::states;
-use wire::copy::copy_over;
 
 // The calls: every kind of request, a start with a wrong nonce among them, a report collected, and a stream that goes down. The flags are
 // NO_FW_UPDATE and LOCK_MSIX.
-const SCRIPT: [u8; 874] =
-    *b"nonce 000102030405060708090a0b0c0d0e0f101112131415161718191a1b1c1d1e1f\n\
+const SCRIPT: &str = "nonce 000102030405060708090a0b0c0d0e0f101112131415161718191a1b1c1d1e1f\n\
     ready 1\n\
     streams 0800000000000000000000000000000000000000000000000000000000000000 # stream 3 is secure\n\
     session 9\n\
@@ -24,7 +21,7 @@ const SCRIPT: [u8; 874] =
     request 10 87 0000 00010000 0000000000000000\n";
 
 // Bytes 72 to 223 of the first record: eight ranges, six of them there, the first with the MSI-X table; 20 bytes of information, 20h to 33h.
-const FIRST: [u8; 152] = *b"\x10\0\0\0\0\0\0\0\x01\0\0\0\x01\0\0\0\
+const FIRST: &[u8; 152] = b"\x10\0\0\0\0\0\0\0\x01\0\0\0\x01\0\0\0\
     \x20\0\0\0\0\0\0\0\x02\0\0\0\0\0\x01\0\
     \x30\0\0\0\0\0\0\0\x03\0\0\0\0\0\x02\0\
     \x40\0\0\0\0\0\0\0\x04\0\0\0\0\0\x03\0\
@@ -37,8 +34,7 @@ const FIRST: [u8; 152] = *b"\x10\0\0\0\0\0\0\0\x01\0\0\0\x01\0\0\0\
 // The table: 0100h with MSI-X control 3, six ranges and information; 0101h in RUN, stream 5, session 7; 0102h.
 fn card() -> [u8; 768] {
     let mut table = [0u8; 768];
-    let first = FIRST;
-    copy_over(&mut table, 72, &first);
+    table[72..224].copy_from_slice(FIRST);
     table[1] = 1;
     table[10] = 6;
     table[14] = 3;
@@ -52,21 +48,10 @@ fn card() -> [u8; 768] {
     table
 }
 
-// What there is before the first call.
-fn before(table: &[u8; 768]) {
-    say(b"the card\n");
-    states::show(table);
-}
-
-// The calls, on the table.
-fn calls(table: &mut [u8; 768]) {
-    let script = SCRIPT;
-    run(&script, table);
-}
-
-// Every kind of request, a report collected, and a stream that goes down.
-pub(crate) fn show() {
+// The card before the first call, every kind of request, a report collected, and a stream that goes down.
+pub(crate) fn show<R: Print>(rt: &R) {
     let mut table = card();
-    before(&table);
-    calls(&mut table);
+    let _ = println!(rt; "the card");
+    states::show(rt, &table);
+    run(rt, SCRIPT.as_bytes(), &mut table);
 }

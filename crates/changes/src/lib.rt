@@ -3,4 +3,5 @@
 
 pub mod event;
 pub mod firmware;
+mod record;
 pub mod write;

@@ -1,4 +1,2 @@
 -- Laws that belong to no one function.
-pub mod OverRange
-pub mod Hitting
-pub mod Moving
+pub mod Counting

@@ -1,50 +1,37 @@
 // Register writes: the class table, and the record that a write names.
-ghost use Rattle.std.specs.Prelude.{◌≡◌, length};
+ghost use Rattle.std.specs.Prelude.{◌≡◌};
 ghost use Rattle.rules.specs.Change.{rule_of, rule_hits};
-ghost use Rattle.rules.specs.Table.{record_bytes};
-ghost use Rattle.classes.specs.Moves.{Moves};
 
-use crate::record::move_record;
-use rules::Rule;
+use crate::record::Change;
 use rules::flags::LockFlags;
 use rules::place::FLAGS;
-use wire::number::num16;
+use rules::{RECORD_BYTES, Rule};
+use wire::number::LowFirst;
 
-// In the order of the numbers; any other class is ERROR.
+// The class table, with the ranges that 01 lists; any other class is ERROR.
+#[tactic(auto, using(std::proofs::lemmas::Bool::Decides::nat_tests), unfolding(rules::specs::Change::rule_of))]
 pub fn rule_of(class: u8) -> Rule
     ensures { result ≡ rule_of class }
 {
     match class {
-        1 => Rule::Allowed,
+        1 | 3 | 9 | 11..=15 => Rule::Allowed,
         2 => Rule::MsixRule,
-        3 => Rule::Allowed,
-        4..=8 => Rule::Error,
-        9 => Rule::Allowed,
         10 => Rule::DeviceWide,
-        11..=15 => Rule::Allowed,
-        16..=17 => Rule::Error,
+        4..=8 | 16..=17 => Rule::Error,
         _ => Rule::Error,
     }
 }
 
-// Whether a write by a rule is for the record that it names: class 2 only under LOCK_MSIX.
-fn rule_hits(rule: Rule, r: &[u8]) -> bool
-    requires { length r.now ≡ record_bytes }
-    ensures { result ≡ rule_hits rule r.now }
-{
-    match rule {
-        Rule::Allowed => false,
-        Rule::MsixRule => LockFlags(num16(r, FLAGS)).contains(LockFlags::LOCK_MSIX),
-        Rule::DeviceWide => true,
-        Rule::Error => true,
-    }
-}
+// A write by a rule, of the record that it names: class 2 only under LOCK_MSIX.
+#[tactic(auto, using(rules::proofs::Bits::lock_msix_bit), unfolding(rules::specs::Change::rule_hits, rules::specs::Change::hits))]
+impl Change for Rule {
+    ghost is_for = { rule_hits };
 
-// One record; how many moved, 0 or 1.
-pub fn write_record(rule: Rule, r: &mut [u8]) -> usize
-    requires { length r.old ≡ record_bytes }
-    ensures { Moves (rule_hits rule) r.old result r.new }
-{
-    let hit = rule_hits(rule, r);
-    move_record(hit, r)
+    fn hits(self, r: &[u8; RECORD_BYTES]) -> bool {
+        match self {
+            Rule::Allowed => false,
+            Rule::MsixRule => LockFlags(u16::read(r, FLAGS)).contains(LockFlags::LOCK_MSIX),
+            Rule::DeviceWide | Rule::Error => true,
+        }
+    }
 }

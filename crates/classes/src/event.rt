@@ -1,30 +1,20 @@
 // Device-wide events: whom they are for.
-ghost use Rattle.std.specs.Prelude.{◌≡◌, length};
+ghost use Rattle.std.specs.Prelude.{◌≡◌};
 ghost use Rattle.rules.specs.Change.{hits};
-ghost use Rattle.rules.specs.Table.{record_bytes};
-ghost use Rattle.classes.specs.Moves.{Moves};
 
-use crate::record::move_record;
-use rules::Event;
+use crate::record::Change;
 use rules::place::{SESSION, STREAM};
+use rules::{Event, RECORD_BYTES, Session, Stream};
 
-// Whether an event is for a record.
-fn hits(event: Event, r: &[u8]) -> bool
-    requires { length r.now ≡ record_bytes }
-    ensures { result ≡ hits event r.now }
-{
-    match event {
-        Event::Multicast => true,
-        Event::StreamDown(stream) => r[STREAM] == stream.0,
-        Event::SessionEnd(session) => r[SESSION] == session.0,
+#[tactic(auto, unfolding(rules::specs::Change::hits))]
+impl Change for Event {
+    ghost is_for = { hits };
+
+    fn hits(self, r: &[u8; RECORD_BYTES]) -> bool {
+        match self {
+            Event::Multicast => true,
+            Event::StreamDown(stream) => Stream(r[STREAM]) == stream,
+            Event::SessionEnd(session) => Session(r[SESSION]) == session,
+        }
     }
-}
-
-// One record; how many moved, 0 or 1.
-pub fn change_record(event: Event, r: &mut [u8]) -> usize
-    requires { length r.old ≡ record_bytes }
-    ensures { Moves (hits event) r.old result r.new }
-{
-    let hit = hits(event, r);
-    move_record(hit, r)
 }

@@ -4,4 +4,4 @@
 pub mod class;
 pub mod event;
 pub mod firmware;
-mod record;
+pub mod record;

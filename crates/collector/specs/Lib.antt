@@ -1,2 +1,3 @@
--- What the promises of this crate say of its struct, over what `rules` says.
+-- What the promises of this crate say of its structs, over what `rules` says.
 pub mod Kept
+pub mod Says

@@ -3,17 +3,16 @@
 
 mod reply;
 
-ghost use Rattle.std.specs.Prelude.{◌≡◌, false, ◌≤◌, length, take};
-ghost use Rattle.rules.specs.Collector.{fresh, next_offset, held_bytes, finished, least_report_reply, total_said, portion_verdict, is_taken, collected};
+ghost use Rattle.std.specs.Prelude.{◌≡◌, ◌+◌, false, length, take, Ok, Err};
+ghost use Rattle.std.specs.Result.{IfOk, IfErr};
+ghost use Rattle.rules.specs.Collector.{fresh, next_offset, held_bytes, finished, portion_verdict, is_taken, collected};
 ghost use Rattle.collector.specs.Kept.{kept};
+ghost use Rattle.collector.specs.Says.{Says};
 
-use crate::reply::{is_report_reply, portion_said, remainder_said};
-use rules::PortionVerdict;
+use crate::reply::Said;
 use rules::report::{MOST_REPORT, PORTION};
-use rules::request::INTERFACE_ID;
-use table::identity::same_identity;
-use wire::copy::{copy_over, least};
-use wire::identity::{identity_at, identity_of};
+use rules::{Identity, PortionRefusal};
+use wire::copy::copy_over;
 
 // The bytes of a report so far and how many; of the interface with this FUNCTION_ID; and the total that the first reply taken said. `begun` is 0
 // while no reply was taken, and then the total says nothing. Every value of it is legal. It crosses to C as it stands.
@@ -27,10 +26,10 @@ pub struct Collector {
     pub bytes: [u8; 200],
 }
 
-// What became of a reply, and the collector afterwards: as it was beside a refusal.
+// What became of a reply, and the collector afterwards: as it was beside a refusal. It goes in and comes back by value (docs/FORMS.md).
 #[derive(Clone, Copy)]
 pub struct TakenReply {
-    pub verdict: PortionVerdict,
+    pub verdict: Result<(), PortionRefusal>,
     pub collector: Collector,
 }
 
@@ -47,13 +46,12 @@ impl Collector {
     pub fn new(function_id: u32) -> Self
         ensures { kept result ≡ fresh function_id }
     {
-        let bytes = [0u8; MOST_REPORT];
         Collector {
-            function_id: function_id,
+            function_id,
             held: 0,
             total: 0,
             begun: 0,
-            bytes: bytes,
+            bytes: [0; MOST_REPORT],
         }
     }
 
@@ -68,81 +66,78 @@ impl Collector {
     pub fn finished(self) -> bool
         ensures { result ≡ finished (kept self) }
     {
-        (self.begun != 0) & (self.held == self.total)
+        self.begun != 0 && self.held == self.total
     }
 
-    // The bytes so far, and how many: 200 at most, whatever `held` says.
+    // The bytes so far, and how many: 200 at most, whatever `held` says. The C interface counts in 32 bits.
     pub fn hand_back(self) -> Whole
-        ensures { (result.length ≡ length (held_bytes (kept self))) × (take result.length result.bytes ≡ held_bytes (kept self)) × (result.bytes ≡ self.bytes) }
+        ensures counted { result.length ≡ length (held_bytes (kept self)) }
+        ensures front { take result.length result.bytes ≡ held_bytes (kept self) }
+        ensures all { result.bytes ≡ self.bytes }
     {
+        // The borrow checker takes an array into a literal only from a variable.
         let bytes = self.bytes;
-        let held = least(self.held as usize, MOST_REPORT);
         Whole {
-            length: held as u32,
-            bytes: bytes,
+            length: self.held.min(MOST_REPORT as u32),
+            bytes,
         }
     }
 
     // The bytes held plus portion plus remainder: a sum that cannot wrap.
-    fn total_said(self, reply: &[u8]) -> u64
-        requires { least_report_reply ≤ length reply.now }
-        ensures { result ≡ total_said (kept self) reply.now }
+    fn total_said(self, said: Said) -> u64
+        ensures { result ≡ self.held + said.portion + said.remainder }
     {
-        let held = self.held as u64;
-        let portion = portion_said(reply) as u64;
-        let remainder = remainder_said(reply) as u64;
-        held + portion + remainder
+        u64::from(self.held) + u64::from(said.portion) + u64::from(said.remainder)
     }
 
-    // Whether a reply is taken, or the first name that applies. Nothing is written.
-    #[tactic(auto, using(rules::proofs::Collections::other_interface, rules::proofs::Bools::and_left))]
-    fn judge(self, reply: &[u8]) -> PortionVerdict
-        ensures { result ≡ portion_verdict (kept self) reply.now }
+    // What a reply that is taken says of itself, or the first name that applies. Nothing is written.
+    #[tactic(auto, using(std::proofs::lemmas::Bool::Decides::nat_tests), unfolding(rules::specs::Collector::portion_verdict, rules::specs::Identity::same))]
+    fn judge(self, reply: &[u8]) -> Result<Said, PortionRefusal>
+        ensures taken { IfOk result (λ s. Says reply.now s × (portion_verdict (kept self) reply.now ≡ Ok tt)) }
+        ensures refused { IfErr result (λ why. portion_verdict (kept self) reply.now ≡ Err why) }
     {
-        if !is_report_reply(reply) {
-            return PortionVerdict::NotReport;
+        let Some(said) = Said::read(reply) else {
+            return Err(PortionRefusal::NotReport);
+        };
+        if Identity::from(self.function_id) != said.interface {
+            return Err(PortionRefusal::OtherInterface);
         }
-        let who = identity_of(self.function_id);
-        if !same_identity(who, identity_at(reply, INTERFACE_ID)) {
-            return PortionVerdict::OtherInterface;
+        if reply.len() != PORTION + usize::from(said.portion) {
+            return Err(PortionRefusal::OtherLength);
         }
-        if reply.len() != PORTION + portion_said(reply) {
-            return PortionVerdict::OtherLength;
-        }
-        let total = self.total_said(reply);
-        if (self.begun != 0) & (total != self.total as u64) {
-            return PortionVerdict::TotalDifferent;
+        let total = self.total_said(said);
+        if self.begun != 0 && total != u64::from(self.total) {
+            return Err(PortionRefusal::TotalDifferent);
         }
         if total > MOST_REPORT as u64 {
-            return PortionVerdict::TotalOver;
+            return Err(PortionRefusal::TotalOver);
         }
-        PortionVerdict::Taken
+        Ok(said)
     }
 
     // A reply to what was asked last: judged and, if it is taken, put behind the bytes held. One that is taken fits there, whatever `held` says;
     // a refused one leaves every byte of the collector.
     pub fn take(mut self, reply: &[u8]) -> TakenReply
-        ensures { (result.verdict ≡ portion_verdict (kept self) reply.now) × (kept result.collector ≡ collected (kept self) reply.now) × (is_taken (portion_verdict (kept self) reply.now) ≡ false → result.collector ≡ self) }
+        ensures verdict { result.verdict ≡ portion_verdict (kept self) reply.now }
+        ensures collected { kept result.collector ≡ collected (kept self) reply.now }
+        ensures refused { is_taken (portion_verdict (kept self) reply.now) ≡ false → result.collector ≡ self }
     {
-        let verdict = self.judge(reply);
-        if verdict.number() != 0 {
-            return TakenReply {
-                verdict: verdict,
+        match self.judge(reply) {
+            Err(why) => TakenReply {
+                verdict: Err(why),
                 collector: self,
-            };
-        }
-        let total = self.total_said(reply);
-        let at = self.held as usize;
-        let from = PORTION;
-        let mut bytes = self.bytes;
-        copy_over(&mut bytes, at, &reply[from..]);
-        self.bytes = bytes;
-        self.held = (at + portion_said(reply)) as u32;
-        self.total = total as u32;
-        self.begun = 1;
-        TakenReply {
-            verdict: verdict,
-            collector: self,
+            },
+            Ok(said) => {
+                let at = self.held as usize;
+                copy_over(&mut self.bytes, at, &reply[PORTION..]);
+                self.held += u32::from(said.portion);
+                self.total = self.held + u32::from(said.remainder);
+                self.begun = 1;
+                TakenReply {
+                    verdict: Ok(()),
+                    collector: self,
+                }
+            }
         }
     }
 }

@@ -1,33 +1,37 @@
 // What a reply says of itself.
-ghost use Rattle.std.specs.Prelude.{◌≡◌, ◌≤◌, ◌<◌, length};
-ghost use Rattle.rules.specs.Collector.{least_report_reply, portion_said, remainder_said, is_report_reply};
+ghost use Rattle.std.specs.Prelude.{◌≡◌, false, None};
+ghost use Rattle.std.specs.Option.{IfSome};
+ghost use Rattle.rules.specs.Collector.{is_report_reply};
+ghost use Rattle.collector.specs.Says.{Says};
 
+use rules::Identity;
 use rules::report::{PORTION, PORTION_LENGTH, REMAINDER_LENGTH};
-use rules::request::VERSION;
-use wire::number::num16;
+use rules::request::{DEVICE_INTERFACE_REPORT, INTERFACE_ID, VERSION};
+use wire::identity::identity_at;
+use wire::number::LowFirst;
 
-// A reply of type 04h: 20 bytes or more, version 10h.
-pub(crate) fn is_report_reply(reply: &[u8]) -> bool
-    ensures { result ≡ is_report_reply reply.now }
-{
-    if reply.len() < PORTION {
-        return false;
+// Whose interface's it is, how long its portion is, and how much is left of the report behind it.
+#[derive(Clone, Copy)]
+pub(crate) struct Said {
+    pub(crate) interface: Identity,
+    pub(crate) portion: u16,
+    pub(crate) remainder: u16,
+}
+
+impl Said {
+    // Nothing, if it is not of type 04h: 20 bytes or more, version 10h.
+    #[tactic(auto, unfolding(rules::specs::Collector::is_report_reply))]
+    pub(crate) fn read(reply: &[u8]) -> Option<Said>
+        ensures says { IfSome result (Says reply.now) }
+        ensures nothing { result ≡ None → is_report_reply reply.now ≡ false }
+    {
+        if reply.len() < PORTION || reply[0] != VERSION || reply[1] != DEVICE_INTERFACE_REPORT {
+            return None;
+        }
+        Some(Said {
+            interface: identity_at(reply, INTERFACE_ID),
+            portion: u16::read(reply, PORTION_LENGTH),
+            remainder: u16::read(reply, REMAINDER_LENGTH),
+        })
     }
-    (reply[0] == VERSION) & (reply[1] == 0x04)
-}
-
-// How long the portion is, by what the reply says.
-pub(crate) fn portion_said(reply: &[u8]) -> usize
-    requires { least_report_reply ≤ length reply.now }
-    ensures { (result ≡ portion_said reply.now) × (result < 65536) }
-{
-    num16(reply, PORTION_LENGTH) as usize
-}
-
-// How much is left of the report behind it.
-pub(crate) fn remainder_said(reply: &[u8]) -> usize
-    requires { least_report_reply ≤ length reply.now }
-    ensures { (result ≡ remainder_said reply.now) × (result < 65536) }
-{
-    num16(reply, REMAINDER_LENGTH) as usize
 }

@@ -1,2 +1,5 @@
 -- Laws that belong to no one function.
-pub mod Cut
+pub mod Same
+pub mod Puts
+pub mod Messages
+pub mod Printed

@@ -1,7 +1,12 @@
--- The record with the fullest report, byte for byte.
-use Rattle.std.specs.Prelude.{List, ◌∷◌, ◌++◌, ℕ}
+-- Bytes written at their places, and the record with the fullest report, byte for byte.
+use Rattle.std.specs.Prelude.{List, ◌∷◌, ◌++◌, ℕ, set}
+use Rattle.std.specs.List.{fold}
 use Rattle.rules.specs.Bytes.{blank}
 use Rattle.rules.specs.Record.{Rec}
+
+-- bytes with others, one after the other, each at its place
+abbrev pub put_each : List ℕ → List (ℕ × ℕ) → List ℕ
+put_each = fold (λ s p. set s p.0 p.1)
 
 -- one page
 abbrev pub one_page : List ℕ

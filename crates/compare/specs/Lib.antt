@@ -1,2 +1,4 @@
--- What the programs start from. No rule stands here.
+-- What the programs start from, and how bytes are printed. No rule stands here.
+pub mod Form
 pub mod Full
+pub mod Requests

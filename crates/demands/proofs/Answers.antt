@@ -1,5 +1,5 @@
 -- Demand 1, proved of `step`: every call ends with the answer that 01 fixes. Assumes nothing.
-use Rattle.std.specs.Prelude.{if◌then◌else◌}
+use Rattle.std.specs.Prelude.{if◌then◌else◌, Err, None, Ok, Option, Result, Some}
 use mathlib.Core.Path.{◌≡◌, refl}
 use mathlib.Core.Bool.{Bool, true, false, not, ◌&&◌}
 use mathlib.Core.List.{List, []}
@@ -13,12 +13,9 @@ use Rattle.rules.specs.Call.{Outcome, refused, carried_out, on_accepted, changed
 use Rattle.rules.specs.Change.{rule_of, write_hits}
 use Rattle.rules.specs.Identity.{identity_of}
 use Rattle.rules.specs.Record.{record_ok}
-use Rattle.rules.specs.Request.{Lent, effect, error_message, verdict}
+use Rattle.rules.specs.Request.{Lent, effect, error_message, error_code, error_datum, verdict}
 use Rattle.rules.specs.Table.{records, record_at, all, distinct, length_ok, find, nothing, lookup_number, table_number}
-use Rattle.rules.specs.declared.Found.{Found}
-use Rattle.rules.specs.declared.Found.TheVariants.{At, Nothing}
-use Rattle.rules.specs.declared.Verdict.{Verdict}
-use Rattle.rules.specs.declared.Verdict.TheVariants.{Error, Serve}
+use Rattle.rules.specs.declared.RequestError.{RequestError}
 use Rattle.rules.proofs.Bools.{and_right}
 use Rattle.rules.proofs.Parts.{length_over}
 use Rattle.rules.proofs.ReplyLengths.{error_short, effect_short}
@@ -93,10 +90,12 @@ module _ (c : Call) (t : List ℕ) where
 
 -- an error or what the named record gets, in a buffer of 256 bytes or more
 module _ (l : Lent) (t : List ℕ) (room : least_reply ≤ length l.reply) (nonce_long : length l.nonce ≡ 32) where
-  carried : (v : Verdict) → 0 ≡ first_of (lines (Request l) t) → Fixed (Request l) t (carried_out v l t)
-  carried (Error code datum) =
+  carried : (v : Result ℕ RequestError) → 0 ≡ first_of (lines (Request l) t) → Fixed (Request l) t (carried_out v l t)
+  carried (Err why) =
+      let code = error_code why in
+      let datum = error_datum why in
       replies (Request l) t (error_message code datum l.request) t (omega (arith, error_short code datum l.request))
-  carried (Serve k) =
+  carried (Ok k) =
       let r = record_at t k in
       replies (Request l) t (effect l r).reply _ (omega (arith, effect_short l r nonce_long))
 
@@ -120,10 +119,10 @@ module _ (id class : ℕ) (t : List ℕ) where
   abbrev write : Call
   write = RegisterWrite id class
 
-  written : (f : Found) → (if nothing f then 7 else 0) ≡ first_of (lines write t)
+  written : (f : Option ℕ) → (if nothing f then 7 else 0) ≡ first_of (lines write t)
       → Fixed write t (if not (eqb (lookup_number f) 0) then refused (lookup_number f) [] t else changed (write_hits (rule_of class) (identity_of id)) t)
-  written (At k) = counts write t _ _
-  written Nothing = refuses write t 7
+  written (Some k) = counts write t _ _
+  written None = refuses write t 7
 
 -- ---- the demand
 

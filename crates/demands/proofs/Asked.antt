@@ -1,5 +1,5 @@
 -- What a request for a report gets: nothing, where the call is refused; an error; or a portion. Assumes nothing.
-use Rattle.std.specs.Prelude.{if◌then◌else◌}
+use Rattle.std.specs.Prelude.{if◌then◌else◌, Some}
 use mathlib.Core.Path.{◌≡◌, refl, ap, ◌∙◌}
 use mathlib.Core.Bool.{Bool, true, false, not}
 use mathlib.Core.List.{List, []}
@@ -14,7 +14,6 @@ use Rattle.rules.specs.Record.{Rec, state}
 use Rattle.rules.specs.Report.{report_total, portion_bytes}
 use Rattle.rules.specs.Request.{Lent, does, fails, message, error_message, kind_of, legal_in, get_report, gets, effect}
 use Rattle.rules.specs.Table.{records, record_at, find}
-use Rattle.rules.specs.declared.Found.TheVariants.{At}
 use Rattle.rules.specs.declared.Identity.{Identity}
 use Rattle.rules.proofs.ServedCall.{Answers, answered_is}
 use Rattle.demands.specs.Collected.{reply_to}
@@ -54,11 +53,11 @@ module _ (l : Lent) (r : Rec) (kind : kind_of l.request ≡ 0x84) where
       by true = report_gives
       by false = error 0x04 0
 
-module _ (i : Identity) (l : Lent) (t : List ℕ) (k : ℕ) (asks : Asks i 0x84 20 l) (found : find i (records t) ≡ At k) where
+module _ (i : Identity) (l : Lent) (t : List ℕ) (k : ℕ) (asks : Asks i 0x84 20 l) (found : find i (records t) ≡ Some k) where
   abbrev r : Rec
   r = record_at t k
 
-  named : find (identity_at l.request 4) (records t) ≡ At k
+  named : find (identity_at l.request 4) (records t) ≡ Some k
   named = found_too i (identity_at l.request 4) (records t) k found asks.who_is
 
   -- whatever it gets

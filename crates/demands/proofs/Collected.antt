@@ -1,4 +1,5 @@
 -- The finished collection of `step`'s replies is the whole report, every reply is taken on the way, and it gets on. Assumes nothing.
+use Rattle.std.specs.Prelude.{Err, Ok, Result, Some}
 use mathlib.Core.Path.{◌≡◌, refl, sym, ap, ◌∙◌}
 use mathlib.Core.Bool.{Bool, true, false}
 use mathlib.Core.List.{List, [], ◌∷◌, ◌++◌}
@@ -11,16 +12,15 @@ use lib.Dec.{ltb}
 use lib.ListN.{length}
 use Rattle.rules.specs.Bytes.{Bytes, num}
 use Rattle.rules.specs.Call.{Call, Request, step}
-use Rattle.rules.specs.Collector.{Collection, fresh, next_offset, finished, portion_number, portion_verdict, collected}
+use Rattle.rules.specs.Collector.{Collection, fresh, next_offset, finished, portion_verdict, collected}
 use Rattle.rules.specs.Identity.{identity_of}
 use Rattle.rules.specs.Record.{Rec, state, record_ok}
 use Rattle.rules.specs.Report.{most_report, most_portion, report_bytes, report_of, report_total, portion_bytes, read_number, handed_back}
 use Rattle.rules.specs.Request.{Lent}
 use Rattle.rules.specs.Table.{records, record_at, record_bytes, find, table_number}
-use Rattle.rules.specs.declared.Found.TheVariants.{At}
 use Rattle.rules.specs.declared.Identity.{Identity}
-use Rattle.rules.specs.declared.PortionVerdict.{PortionVerdict}
-use Rattle.rules.specs.declared.PortionVerdict.TheVariants.{Taken, NotReport, TotalDifferent}
+use Rattle.rules.specs.declared.PortionRefusal.{PortionRefusal}
+use Rattle.rules.specs.declared.PortionRefusal.TheVariants.{NotReport, TotalDifferent}
 use Rattle.rules.proofs.Accepted.{keeps_rules}
 use Rattle.rules.proofs.Kept.{count_most, information_most}
 use Rattle.rules.proofs.Lookup.{find_at}
@@ -111,7 +111,7 @@ module _ (id : ℕ) (whole : List ℕ) (small : length whole ≤ most_report) wh
   record Turned (k : ℕ) (a : Ask) (rest : List Ask) (t : List ℕ) : Type 0 where
     here : Shows whole (record_at (table_at step a t) k)
     stands : LockStands (record_at (table_at step a t) k)
-    found : find i (records (table_at step a t)) ≡ At k
+    found : find i (records (table_at step a t)) ≡ Some k
     after : Shows whole (record_at (table_after step a t) k)
     then : OneLock step i k (calls rest) (table_after step a t)
 
@@ -151,7 +151,7 @@ module _ (id : ℕ) (whole : List ℕ) (small : length whole ≤ most_report) wh
 
   -- the ask that comes next, if no refusal stops it
   next_taken : (k : ℕ) (c : Collection) (t : List ℕ) (l : Lent) → Holds id whole c → AsksNext i c l → Shows whole (record_at t k) → LockStands (record_at t k)
-      → find i (records t) ≡ At k → Arrives l t → c.held < length whole → TakesMore c l (length whole) (reply_to step l t)
+      → find i (records t) ≡ Some k → Arrives l t → c.held < length whole → TakesMore c l (length whole) (reply_to step l t)
   next_taken k c t l h n x s found on inside =
       portion_takes c h l n (record_at t k) x inside (reply_to step l t)
       (reply_portion i l t k n.asks found on s (below_told c h l n (record_at t k) x inside))
@@ -171,19 +171,19 @@ module _ (id : ℕ) (whole : List ℕ) (small : length whole ≤ most_report) wh
       (still_enough (min n most_portion) (collected c p).held c.held (length rest) brings (reply_keeps c h a.lent m (record_at u k) w.here p reply) enough)
 
   -- one asked elsewhere is not taken, once a reply was
-  refused : (v w : PortionVerdict) → v ≡ w → (portion_number w ≡ 0 → ⊥) → v ≡ Taken → ⊥
-  refused v w e n t = n (ap portion_number (sym e ∙ t))
+  refused : (v : Result Unit PortionRefusal) (why : PortionRefusal) → v ≡ Err why → v ≡ Ok tt → ⊥
+  refused v why e t = cc
 
   asked_elsewhere : (c : Collection) (h : Holds id whole c) (l : Lent) (asks : Asks i 0x84 20 l) (r : Rec) (x : Shows whole r) → c.begun ≡ true
-      → (num l.request 16 2 ≡ next_offset c → ⊥) → (p : List ℕ) → Gets l.request r p → portion_verdict c p ≡ Taken → ⊥
+      → (num l.request 16 2 ≡ next_offset c → ⊥) → (p : List ℕ) → Gets l.request r p → portion_verdict c p ≡ Ok tt → ⊥
   unfolding portion_bytes
-  asked_elsewhere c h l asks r x b n p Gets.nothing = refused _ NotReport (nothing_told c) (λ e. omega arith)
-  asked_elsewhere c h l asks r x b n p (Gets.error code datum) = refused _ NotReport (error_told c code datum l.request) (λ e. omega arith)
+  asked_elsewhere c h l asks r x b n p Gets.nothing = refused _ NotReport (nothing_told c)
+  asked_elsewhere c h l asks r x b n p (Gets.error code datum) = refused _ NotReport (error_told c code datum l.request)
   asked_elsewhere c h l asks r x b n p (Gets.portion a) =
       let q = l.request in
       let inside : num q 16 2 < length whole = omega (arith, x.total_is) in
       let told = elsewhere id whole small c h q (omega (arith, asks.length_is)) asks.who_is (length_asked l) (num q 16 2) inside b n in
-      refused _ TotalDifferent (rw (x.total_is, x.report_is) told) (λ e. omega arith)
+      refused _ TotalDifferent (rw (x.total_is, x.report_is) told)
 
 -- ---- the report of i's record, in an accepted table
 
@@ -191,7 +191,7 @@ either : (r : Rec) → LockStands r → (state r ≡ 1) ⊎ (state r ≡ 2)
 either r (in_locked e) = inl e
 either r (in_run e) = inr e
 
-module _ (i : Identity) (k : ℕ) (t : List ℕ) (accepted : table_number t ≡ 0) (found : find i (records t) ≡ At k) where
+module _ (i : Identity) (k : ℕ) (t : List ℕ) (accepted : table_number t ≡ 0) (found : find i (records t) ≡ Some k) where
   abbrev r : Rec
   r = record_at t k
 
@@ -253,7 +253,7 @@ module _ (id k : ℕ) (asks : List Ask) (t : List ℕ) (a : Collects step id k a
   -- after any calls more over the lock
   later : (more : List Call) → Along step (Leaves step (identity_of id)) more (run step (calls asks) t)
       → Shows whole (record_at (run step more (run step (calls asks) t)) k) × LockStands (record_at (run step more (run step (calls asks) t)) k)
-      × (find (identity_of id) (records (run step more (run step (calls asks) t))) ≡ At k)
+      × (find (identity_of id) (records (run step more (run step (calls asks) t))) ≡ Some k)
   later more lasts =
       let i = identity_of id in
       let u = run step (calls asks) t in

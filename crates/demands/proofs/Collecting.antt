@@ -1,5 +1,5 @@
 -- What taking and refusing do, whatever the replies. Assumes nothing.
-use Rattle.std.specs.Prelude.{if◌then◌else◌}
+use Rattle.std.specs.Prelude.{if◌then◌else◌, Err, Ok, Result}
 use mathlib.Core.Path.{◌≡◌, refl, sym, ap, ◌∙◌}
 use mathlib.Core.Bool.{Bool, true, false, not, ◌&&◌, ◌||◌}
 use mathlib.Core.List.{List, [], ◌∷◌, ◌++◌}
@@ -13,8 +13,8 @@ use lib.Seq.{length-take-le, take_at, drop_at, drop-drop}
 use Rattle.rules.specs.Bytes.{byte, num, blank, over}
 use Rattle.rules.specs.Collector.{Collection, fresh, held_bytes, finished, least_report_reply, total_said, portion_in, is_report_reply, is_for_it, is_different, portion_number, portion_verdict, is_taken, grown, collected}
 use Rattle.rules.specs.Report.{most_report}
-use Rattle.rules.specs.declared.PortionVerdict.{PortionVerdict}
-use Rattle.rules.specs.declared.PortionVerdict.TheVariants.{Taken, NotReport, OtherInterface, OtherLength, TotalDifferent, TotalOver}
+use Rattle.rules.specs.declared.PortionRefusal.{PortionRefusal}
+use Rattle.rules.specs.declared.PortionRefusal.TheVariants.{NotReport, OtherInterface, OtherLength, TotalDifferent, TotalOver}
 use Rattle.rules.proofs.Bools.{clash, and_left, and_right}
 use Rattle.rules.proofs.Collections.{Takes, takes}
 use Rattle.rules.proofs.Listed.{drop_blank}
@@ -32,7 +32,12 @@ under n m = by (leb m n) refl
     by false e = lt-ltb n m (leb-false m n e)
 
 first_name : (a x y s d f g : Bool)
-    → portion_number (if not (a && (x && y)) then NotReport else if not s then OtherInterface else if not d then OtherLength else if f then TotalDifferent else if g then TotalOver else Taken)
+    → portion_number (if not (a && (x && y)) then Err NotReport
+    else if not s then Err OtherInterface
+    else if not d then Err OtherLength
+    else if f then Err TotalDifferent
+    else if g then Err TotalOver
+    else Ok tt)
     ≡ first_of (line 30 (not a || (not x || not y)) ∷ line 31 (not s) ∷ line 32 (not d) ∷ line 33 f ∷ line 34 g ∷ [])
 unfolding first_of
 first_name false x y s d f g = refl
@@ -67,23 +72,23 @@ module _ (c : Collection) (p : List ℕ) where
       by true e = took (takes c p e) (rw e)
       by false e = left (rw e)
 
-  not_taken : (v : PortionVerdict) → (v ≡ Taken → ⊥) → is_taken v ≡ false
-  not_taken Taken n = absurd (n refl)
-  not_taken NotReport n = refl
-  not_taken OtherInterface n = refl
-  not_taken OtherLength n = refl
-  not_taken TotalDifferent n = refl
-  not_taken TotalOver n = refl
+  not_taken : (v : Result Unit PortionRefusal) → (v ≡ Ok tt → ⊥) → is_taken v ≡ false
+  not_taken (Ok tt) n = absurd (n refl)
+  not_taken (Err NotReport) n = refl
+  not_taken (Err OtherInterface) n = refl
+  not_taken (Err OtherLength) n = refl
+  not_taken (Err TotalDifferent) n = refl
+  not_taken (Err TotalOver) n = refl
 
-  refused_leaves : (portion_verdict c p ≡ Taken → ⊥) → collected c p ≡ c
+  refused_leaves : (portion_verdict c p ≡ Ok tt → ⊥) → collected c p ≡ c
   unfolding collected
   refused_leaves n = rw (not_taken (portion_verdict c p) n)
 
-  taken_grows : portion_verdict c p ≡ Taken → collected c p ≡ grown c p
+  taken_grows : portion_verdict c p ≡ Ok tt → collected c p ≡ grown c p
   unfolding collected
   taken_grows e = rw e
 
-  taken_bytes : length c.bytes ≡ most_report → portion_verdict c p ≡ Taken → held_bytes (collected c p) ≡ held_bytes c ++ portion_in p
+  taken_bytes : length c.bytes ≡ most_report → portion_verdict c p ≡ Ok tt → held_bytes (collected c p) ≡ held_bytes c ++ portion_in p
   unfolding grown over
   taken_bytes room e =
       let t = takes c p (ap is_taken e) in
@@ -91,11 +96,11 @@ module _ (c : Collection) (p : List ℕ) where
       let held : length (held_bytes c) ≡ c.held = length-take-le c.held c.bytes (omega (arith, t.most, room)) in
       rw (taken_grows e) (take_at (held_bytes c ++ portion_in p) (drop (c.held + length (portion_in p)) c.bytes) (c.held + num p 16 2) (rw (length-append, held, long)))
 
-  taken_counts : portion_verdict c p ≡ Taken → (collected c p).held ≡ c.held + num p 16 2
+  taken_counts : portion_verdict c p ≡ Ok tt → (collected c p).held ≡ c.held + num p 16 2
   unfolding grown
   taken_counts e = ap (λ (d : Collection). d.held) (taken_grows e)
 
-  taken_fixes : portion_verdict c p ≡ Taken → ((collected c p).begun ≡ true) × ((collected c p).total ≡ total_said c p)
+  taken_fixes : portion_verdict c p ≡ Ok tt → ((collected c p).begun ≡ true) × ((collected c p).total ≡ total_said c p)
   unfolding grown
   taken_fixes e = (ap (λ (d : Collection). d.begun) (taken_grows e), ap (λ (d : Collection). d.total) (taken_grows e))
 

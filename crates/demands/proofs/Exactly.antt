@@ -1,5 +1,5 @@
 -- Demand 2, proved of `step`: every request and every event does exactly what 01 calls for. Assumes nothing.
-use Rattle.std.specs.Prelude.{if◌then◌else◌}
+use Rattle.std.specs.Prelude.{if◌then◌else◌, None, Ok, Result, Some}
 use mathlib.Core.Path.{◌≡◌, refl, sym, ap, ◌∙◌}
 use mathlib.Core.Bool.{Bool, true, false, not}
 use mathlib.Core.List.{List, [], ◌∷◌, map}
@@ -18,10 +18,8 @@ use Rattle.rules.specs.Report.{most_portion, report_total, portion_length, porti
 use Rattle.rules.specs.Request.{Lent, Effect, does, fails, message, kind_of, exact_length, legal_in, verdict, capabilities, secure, asked_flags, asked_stream, asked_offset, locked, lock_interface, get_report, running, start_interface, cleared, gets, effect}
 use Rattle.rules.specs.Table.{records, record_at, all, find, table_number}
 use Rattle.rules.specs.declared.Event.{Event}
-use Rattle.rules.specs.declared.Found.TheVariants.{At, Nothing}
 use Rattle.rules.specs.declared.Identity.{Identity}
-use Rattle.rules.specs.declared.Verdict.{Verdict}
-use Rattle.rules.specs.declared.Verdict.TheVariants.{Serve}
+use Rattle.rules.specs.declared.RequestError.{RequestError}
 use Rattle.rules.proofs.Accepted.{keeps_rules}
 use Rattle.rules.proofs.Changed.{records_after, known_served, unknown_refused}
 use Rattle.rules.proofs.Checks.{wrong_version, unlisted, wrong_length, known, unknown}
@@ -64,8 +62,8 @@ module _ (l : Lent) (t : List ℕ) (on : Arrives l t) where
       (rw (eq-eqb (length l.streams) 32 on.map_length, eq-eqb (length l.nonce) 32 on.nonce_length))
 
   -- gets what the checks tell: an error,
-  gets_verdict : (v : Verdict) → v ≡ verdict l.request (records t) → step (Request l) t ≡ carried_out v l t
-  gets_verdict v e = is_checked ∙ ap (λ (x : Verdict). carried_out x l t) (sym e)
+  gets_verdict : (v : Result ℕ RequestError) → v ≡ verdict l.request (records t) → step (Request l) t ≡ carried_out v l t
+  gets_verdict v e = is_checked ∙ ap (λ (x : Result ℕ RequestError). carried_out x l t) (sym e)
 
   abbrev exact : ℕ
   exact = exact_length (kind_of l.request)
@@ -85,11 +83,11 @@ module _ (l : Lent) (t : List ℕ) (on : Arrives l t) where
         abbrev who : Identity
         who = identity_at l.request 4
 
-        unknown_errs : find who (records t) ≡ Nothing → Errs step l t 0x101 0
+        unknown_errs : find who (records t) ≡ None → Errs step l t 0x101 0
         unknown_errs none = gets_verdict _ (unknown l.request (records t) exact v refl who _ listed n refl refl none)
 
         -- or is carried out on the record that it names
-        is_served : (k : ℕ) → find who (records t) ≡ At k → step (Request l) t ≡ carried_out (Serve k) l t
+        is_served : (k : ℕ) → find who (records t) ≡ Some k → step (Request l) t ≡ carried_out (Ok k) l t
         is_served k found = gets_verdict _ (known l.request (records t) exact v refl who _ listed n refl refl k found)
 
 -- so a request of a listed type that no check stops gets what is done to that record

@@ -1,4 +1,5 @@
 -- Demand 3, RUN, proved of `step`. Assumes nothing.
+use Rattle.std.specs.Prelude.{None, Option, Some}
 use mathlib.Core.Path.{◌≡◌, refl, sym, ap, ◌∙◌}
 use mathlib.Core.Logic.{◌⊎◌, inl, inr, ⊎_elim}
 use mathlib.Core.Bool.{true, false}
@@ -11,8 +12,6 @@ use Rattle.rules.specs.Call.{Call, step}
 use Rattle.rules.specs.Change.{live}
 use Rattle.rules.specs.Record.{Rec, state}
 use Rattle.rules.specs.Table.{records, record_at, all, find}
-use Rattle.rules.specs.declared.Found.{Found}
-use Rattle.rules.specs.declared.Found.TheVariants.{At, Nothing}
 use Rattle.rules.specs.declared.Identity.{Identity}
 use Rattle.rules.proofs.Bools.{clash}
 use Rattle.rules.proofs.Lookup.{all_at, find_at}
@@ -95,7 +94,7 @@ module _ (i : Identity) where
   running_live : {on : Terms} (r : Rec) → Runs on r → live r ≡ true
   running_live r l = live_in r 2 l.state_is
 
-  module _ (t : List ℕ) (k : ℕ) (found : find i (records t) ≡ At k) (c : Call) where
+  module _ (t : List ℕ) (k : ℕ) (found : find i (records t) ≡ Some k) (c : Call) where
     abbrev r : Rec
     r = record_at t k
 
@@ -132,7 +131,7 @@ module _ (i : Identity) where
         let ran : RanSince i (e ∷ es) = later e (s.if_dead d) in
         record { if_dead = λ x. ran; if_locked = λ n on x. inr ran; if_running = λ on x. inr ran }
 
-  tells : (h : List Call) (t : List ℕ) (k : ℕ) → find i (records t) ≡ At k → state (record_at (run step h t) k) ≡ 2 → Tells (record_at t k) (trace step h t)
+  tells : (h : List Call) (t : List ℕ) (k : ℕ) → find i (records t) ≡ Some k → state (record_at (run step h t) k) ≡ 2 → Tells (record_at t k) (trace step h t)
   unfolding run trace
   tells [] t k found s = record {
     if_dead = λ d. clash (sym (live_in (record_at t k) 2 s) ∙ d);
@@ -175,7 +174,7 @@ module _ (i : Identity) where
 
   module _ (k : ℕ) where
     -- a record that runs goes on running
-    still_runs : (on : Terms) (h : List Call) (t : List ℕ) → find i (records t) ≡ At k → Runs on (record_at t k) → Lasts i on (trace step h t) → Runs on (record_at (run step h t) k)
+    still_runs : (on : Terms) (h : List Call) (t : List ℕ) → find i (records t) ≡ Some k → Runs on (record_at t k) → Lasts i on (trace step h t) → Runs on (record_at (run step h t) k)
     unfolding run trace
     still_runs on [] t f r l = r
     still_runs on (c ∷ h) t f r l = still_runs on h (step c t).table (place_stays c i t ∙ f) (go (turn i t k f c)) (all_rest l)
@@ -187,7 +186,7 @@ module _ (i : Identity) where
         go (Turn.ends g d) = absurd (all_first l (rw r.terms_are at (g (running_live (record_at t k) r))))
 
     -- a locked record runs once a start with its nonce is served
-    middle_runs : (n : List ℕ) (on : Terms) (ms : List Seen) (s : Seen) (xs : List Seen) (h : List Call) (t : List ℕ) → find i (records t) ≡ At k → Locked n on (record_at t k)
+    middle_runs : (n : List ℕ) (on : Terms) (ms : List Seen) (s : Seen) (xs : List Seen) (h : List Call) (t : List ℕ) → find i (records t) ≡ Some k → Locked n on (record_at t k)
         → trace step h t ≡ ms ++ (s ∷ xs) → ServedStart i n s → Lasts i on (ms ++ (s ∷ xs)) → Runs on (record_at (run step h t) k)
     unfolding run
     middle_runs n on [] s xs [] t f r q a l = absurd (no_first t s xs q)
@@ -201,7 +200,7 @@ module _ (i : Identity) where
         let quiet : Ends i on (seen step c t) → ⊥ = rw (sym (first_is c h t m (ms ++ (s ∷ xs)) q)) at (all_first l) in
         go there (rw (sym rest) at (all_rest l)) quiet (λ x. middle_runs n on ms s xs h (step c t).table there x rest a (all_rest l)) (turn i t k f c)
       where
-        go : find i (records (step c t).table) ≡ At k → Lasts i on (trace step h (step c t).table) → (Ends i on (seen step c t) → ⊥)
+        go : find i (records (step c t).table) ≡ Some k → Lasts i on (trace step h (step c t).table) → (Ends i on (seen step c t) → ⊥)
             → (Locked n on (record_at (step c t).table k) → Runs on (record_at (run step h (step c t).table) k))
             → Turn i (seen step c t) (record_at t k) (record_at (step c t).table k) → Runs on (record_at (run step h (step c t).table) k)
         go there lasts quiet on-with (Turn.stays p) = on-with (rw p r)
@@ -210,7 +209,7 @@ module _ (i : Identity) where
         go there lasts quiet on-with (Turn.ends g d) = absurd (quiet (rw r.terms_are at (g (locked_live (record_at t k) r))))
 
     -- and so does one that was locked, whatever came before
-    lock_runs : (n : List ℕ) (on : Terms) (bs : List Seen) (o : Seen) (ms : List Seen) (s : Seen) (xs : List Seen) (h : List Call) (t : List ℕ) → find i (records t) ≡ At k
+    lock_runs : (n : List ℕ) (on : Terms) (bs : List Seen) (o : Seen) (ms : List Seen) (s : Seen) (xs : List Seen) (h : List Call) (t : List ℕ) → find i (records t) ≡ Some k
         → trace step h t ≡ bs ++ (o ∷ (ms ++ (s ∷ xs))) → AcceptedLock i n on o → ServedStart i n s → Lasts i on (ms ++ (s ∷ xs)) → Runs on (record_at (run step h t) k)
     unfolding run
     lock_runs n on [] o ms s xs [] t f q b a l = absurd (no_first t o (ms ++ (s ∷ xs)) q)
@@ -222,7 +221,7 @@ module _ (i : Identity) where
         lock_runs n on bs o ms s xs h (step c t).table (place_stays c i t ∙ f) (rest_is c h t x (bs ++ (o ∷ (ms ++ (s ∷ xs)))) q) b a l
 
   -- an interface that is no record's never was locked
-  never_locked : (n : List ℕ) (on : Terms) (bs : List Seen) (o : Seen) (xs : List Seen) (h : List Call) (t : List ℕ) → find i (records t) ≡ Nothing → trace step h t ≡ bs ++ (o ∷ xs)
+  never_locked : (n : List ℕ) (on : Terms) (bs : List Seen) (o : Seen) (xs : List Seen) (h : List Call) (t : List ℕ) → find i (records t) ≡ None → trace step h t ≡ bs ++ (o ∷ xs)
       → AcceptedLock i n on o → ⊥
   never_locked n on [] o xs [] t f q b = no_first t o xs q
   never_locked n on [] o xs (c ∷ h) t f q b = no_lock i t c n on f (rw (sym (first_is c h t o xs q)) at b)
@@ -232,19 +231,19 @@ module _ (i : Identity) where
 
   -- ---- both
 
-  ran_then_runs : (h : List Call) (t : List ℕ) (f : Found) → find i (records t) ≡ f → RanSince i (trace step h t) → InRun i (run step h t)
-  ran_then_runs h t (At k) f s =
+  ran_then_runs : (h : List Call) (t : List ℕ) (f : Option ℕ) → find i (records t) ≡ f → RanSince i (trace step h t) → InRun i (run step h t)
+  ran_then_runs h t (Some k) f s =
       record {
         place = k;
         found = found_after h t ∙ f;
         running = (lock_runs k s.nonce s.on s.before s.lock s.middle s.start s.after h t f s.whole s.locked s.started s.lasting).state_is;
       }
-  ran_then_runs h t Nothing f s = absurd (never_locked s.nonce s.on s.before s.lock (s.middle ++ (s.start ∷ s.after)) h t f s.whole s.locked)
+  ran_then_runs h t None f s = absurd (never_locked s.nonce s.on s.before s.lock (s.middle ++ (s.start ∷ s.after)) h t f s.whole s.locked)
 
   runs_then_ran : (h : List Call) (t : List ℕ) → all unlocked (records t) ≡ true → InRun i (run step h t) → RanSince i (trace step h t)
   runs_then_ran h t u x =
       let k = x.place in
-      let f : find i (records t) ≡ At k = sym (found_after h t) ∙ x.found in
+      let f : find i (records t) ≡ Some k = sym (found_after h t) ∙ x.found in
       let s : state (record_at t k) ≡ 0 = eqb-true _ _ (all_at unlocked (records t) k u (find_at i k (records t) f).within) in
       (tells h t k f x.running).if_dead (live_in (record_at t k) 0 s)
 

@@ -1,5 +1,5 @@
 -- A collector that is handed a portion of a report, asked at its OFFSET, takes it and then holds more of the report. Assumes nothing.
-use Rattle.std.specs.Prelude.{if◌then◌else◌}
+use Rattle.std.specs.Prelude.{if◌then◌else◌, Err, Ok}
 use mathlib.Core.Path.{◌≡◌, refl, sym, ap, ◌∙◌}
 use mathlib.Core.Bool.{Bool, true, false, not, ◌&&◌}
 use mathlib.Core.List.{List, [], ◌++◌}
@@ -14,7 +14,7 @@ use Rattle.rules.specs.Collector.{Collection, fresh, held_bytes, finished, porti
 use Rattle.rules.specs.Identity.{identity_of, identity_at, same}
 use Rattle.rules.specs.Report.{most_report, most_portion, portion_length, remainder_length}
 use Rattle.rules.specs.Request.{message, error_message}
-use Rattle.rules.specs.declared.PortionVerdict.TheVariants.{Taken, NotReport, TotalDifferent, TotalOver}
+use Rattle.rules.specs.declared.PortionRefusal.TheVariants.{NotReport, TotalDifferent, TotalOver}
 use Rattle.rules.proofs.Bools.{clash, and_left, and_right}
 use Rattle.rules.proofs.Parts.{length_part, length_over}
 use Rattle.rules.proofs.ReportReply.{error_none, length_reply, portion_said_lem, remainder_said_lem, interface_said, portion_in_lem, is_report}
@@ -41,7 +41,7 @@ fresh_holds id whole = record {
 
 -- ---- a reply that is none
 
-none_told : (c : Collection) (p : List ℕ) → is_report_reply p ≡ false → portion_verdict c p ≡ NotReport
+none_told : (c : Collection) (p : List ℕ) → is_report_reply p ≡ false → portion_verdict c p ≡ Err NotReport
 unfolding portion_verdict
 none_told c p e = rw e
 
@@ -49,11 +49,11 @@ none_left : (c : Collection) (p : List ℕ) → is_report_reply p ≡ false → 
 unfolding collected
 none_left c p e = rw (none_told c p e)
 
-pub nothing_told : (c : Collection) → portion_verdict c [] ≡ NotReport
+pub nothing_told : (c : Collection) → portion_verdict c [] ≡ Err NotReport
 unfolding is_report_reply
 nothing_told c = none_told c [] refl
 
-pub error_told : (c : Collection) (code datum : ℕ) (q : List ℕ) → portion_verdict c (error_message code datum q) ≡ NotReport
+pub error_told : (c : Collection) (code datum : ℕ) (q : List ℕ) → portion_verdict c (error_message code datum q) ≡ Err NotReport
 error_told c code datum q = none_told c (error_message code datum q) (error_none code datum q)
 
 pub nothing_left : (c : Collection) → collected c [] ≡ c
@@ -106,7 +106,7 @@ module _ (whole : List ℕ) (small : length whole ≤ most_report) (q : List ℕ
 
   -- for its interface, of any total: what is left to ask
   to_ask : (c : Collection) → same (identity_of c.id) (identity_at q 4) ≡ true → (x : ℕ) → total_said c portion ≡ x
-      → portion_verdict c portion ≡ (if c.begun && not (eqb x c.total) then TotalDifferent else if ltb most_report x then TotalOver else Taken)
+      → portion_verdict c portion ≡ (if c.begun && not (eqb x c.total) then Err TotalDifferent else if ltb most_report x then Err TotalOver else Ok tt)
   unfolding portion_verdict
   to_ask c who x e =
       let mine : is_for_it c portion ≡ true = rw (interface_said q q_long P R bytes P_fits R_fits) who in
@@ -123,7 +123,7 @@ module _ (id : ℕ) (whole : List ℕ) (small : length whole ≤ most_report) (c
     mine = rw h.id_is who
 
     -- asked elsewhere, once a reply was taken, it is refused: its total is different
-    pub elsewhere : (at : ℕ) (inside : at < length whole) → c.begun ≡ true → (at ≡ c.held → ⊥) → portion_verdict c (portion whole small q q_long at asked inside) ≡ TotalDifferent
+    pub elsewhere : (at : ℕ) (inside : at < length whole) → c.begun ≡ true → (at ≡ c.held → ⊥) → portion_verdict c (portion whole small q q_long at asked inside) ≡ Err TotalDifferent
     elsewhere at inside b n =
         let x = c.held + (length whole - at) in
         let other : x ≡ c.total → ⊥ = λ e. n (omega (arith, h.begun_with b, h.within)) in
@@ -150,7 +150,7 @@ module _ (id : ℕ) (whole : List ℕ) (small : length whole ≤ most_report) (c
     total_is = total_said_lem whole small q q_long c.held asked inside c ∙ omega arith
 
     -- it is taken
-    pub is_taken_lem : portion_verdict c reply ≡ Taken
+    pub is_taken_lem : portion_verdict c reply ≡ Ok tt
     is_taken_lem =
         to_ask whole small q q_long c.held asked inside c (mine q q_long who asked) (length whole) total_is
         ∙ rw (not_different c.begun (length whole) c.total h.begun_with, le-ltb most_report (length whole) small)

@@ -1,5 +1,6 @@
 -- What calls leave of an interface's lock: one that stands throughout is one lock, with one report, and calls that pass the interface by leave it
 -- standing. Assumes nothing.
+use Rattle.std.specs.Prelude.{None, Option, Some}
 use mathlib.Core.Path.{◌≡◌, refl, sym, ap, ◌∙◌}
 use mathlib.Core.Bool.{Bool, true, false, ◌||◌}
 use mathlib.Core.List.{List, [], ◌∷◌, ◌++◌}
@@ -14,8 +15,6 @@ use Rattle.rules.specs.Record.{Rec, state}
 use Rattle.rules.specs.Report.{report_of}
 use Rattle.rules.specs.Request.{Lent}
 use Rattle.rules.specs.Table.{records, record_at, find}
-use Rattle.rules.specs.declared.Found.{Found}
-use Rattle.rules.specs.declared.Found.TheVariants.{At, Nothing}
 use Rattle.rules.specs.declared.Identity.{Identity}
 use Rattle.rules.specs.declared.Rule.{Rule}
 use Rattle.rules.proofs.Bools.{clash, and_left}
@@ -64,7 +63,7 @@ sends_event i on (RegisterWrite id class) n s = by (rule_of class) refl s
 sends_event i on (DeviceWide e) n s = refl
 sends_event i on FirmwareQuestion n s = clash (sym s)
 
-module _ (i : Identity) (t : List ℕ) (k : ℕ) (found : find i (records t) ≡ At k) (c : Call) where
+module _ (i : Identity) (t : List ℕ) (k : ℕ) (found : find i (records t) ≡ Some k) (c : Call) where
   abbrev r : Rec
   r = record_at t k
 
@@ -125,7 +124,7 @@ along_back P (c ∷ h) g t (x then a) = along_back P h g (step c t).table a
 
 module _ (i : Identity) where
   -- a lock that stands from first to last: the report is the same,
-  pub lasting_same : (h : List Call) (t : List ℕ) (k : ℕ) → find i (records t) ≡ At k → LockStands (record_at t k) → Along step (Leaves step i) h t
+  pub lasting_same : (h : List Call) (t : List ℕ) (k : ℕ) → find i (records t) ≡ Some k → LockStands (record_at t k) → Along step (Leaves step i) h t
       → (report_of (record_at (run step h t) k) ≡ report_of (record_at t k)) × LockStands (record_at (run step h t) k)
   unfolding run
   lasting_same [] t k found s no_more = (refl, s)
@@ -136,12 +135,12 @@ module _ (i : Identity) where
       (rest.0 ∙ lock_same i t k found c (stands_live _ s) (stands_live _ s'), rest.1)
 
   -- calls that pass it by: it stands at the end if it did at the beginning, and then throughout
-  pub passed_live : (h : List Call) (t : List ℕ) (k : ℕ) → find i (records t) ≡ At k → Along step (PassesBy step i) h t → live (record_at (run step h t) k) ≡ live (record_at t k)
+  pub passed_live : (h : List Call) (t : List ℕ) (k : ℕ) → find i (records t) ≡ Some k → Along step (PassesBy step i) h t → live (record_at (run step h t) k) ≡ live (record_at t k)
   unfolding run
   passed_live [] t k found no_more = refl
   passed_live (c ∷ h) t k found (x then a) = passed_live h (step c t).table k (place_stays c i t ∙ found) a ∙ passes_live i t k found c x
 
-  pub passed_lasts : (h : List Call) (t : List ℕ) (k : ℕ) → find i (records t) ≡ At k → live (record_at t k) ≡ true → Along step (PassesBy step i) h t
+  pub passed_lasts : (h : List Call) (t : List ℕ) (k : ℕ) → find i (records t) ≡ Some k → live (record_at t k) ≡ true → Along step (PassesBy step i) h t
       → Along step (Leaves step i) h t
   passed_lasts [] t k found s no_more = no_more
   passed_lasts (c ∷ h) t k found s (x then a) =
@@ -152,7 +151,7 @@ module _ (i : Identity) where
   -- ---- told from the history: nothing ends it
 
   -- a call that does not end it leaves it standing, on the terms on which it was made
-  not_ended_stands : (t : List ℕ) (k : ℕ) (found : find i (records t) ≡ At k) (c : Call) (on : Terms) → live (record_at t k) ≡ true → terms (record_at t k) ≡ on
+  not_ended_stands : (t : List ℕ) (k : ℕ) (found : find i (records t) ≡ Some k) (c : Call) (on : Terms) → live (record_at t k) ≡ true → terms (record_at t k) ≡ on
       → (Ends i on (seen step c t) → ⊥) → (live (record_at (step c t).table k) ≡ true) × (terms (record_at (step c t).table k) ≡ on)
   not_ended_stands t k found c on l e quiet = by (turn i t k found c)
     where
@@ -163,7 +162,7 @@ module _ (i : Identity) where
       by (Turn.starts z a q x) = (live_in _ 2 x.state_is, x.terms_are ∙ e)
       by (Turn.ends f d) = absurd (quiet (rw e at (f l)))
 
-  lasts_stands : (h : List Call) (t : List ℕ) (k : ℕ) (on : Terms) → find i (records t) ≡ At k → live (record_at t k) ≡ true → terms (record_at t k) ≡ on
+  lasts_stands : (h : List Call) (t : List ℕ) (k : ℕ) (on : Terms) → find i (records t) ≡ Some k → live (record_at t k) ≡ true → terms (record_at t k) ≡ on
       → Lasts i on (trace step h t) → Along step (Leaves step i) h t
   unfolding trace
   lasts_stands [] t k on found l e none_left = no_more
@@ -173,10 +172,10 @@ module _ (i : Identity) where
       record { place = k; found = found'; stands = live_stands _ after.0 } then lasts_stands h (step c t).table k on found' after.0 after.1 rest
 
   -- from the lock on
-  since_lock : (c : Call) (n : List ℕ) (on : Terms) (h : List Call) (t : List ℕ) (f : Found) → find i (records t) ≡ f → AcceptedLock i n on (seen step c t)
+  since_lock : (c : Call) (n : List ℕ) (on : Terms) (h : List Call) (t : List ℕ) (f : Option ℕ) → find i (records t) ≡ f → AcceptedLock i n on (seen step c t)
       → Lasts i on (trace step h (step c t).table) → Along step (Leaves step i) (c ∷ h) t
-  since_lock c n on h t Nothing found a lasts = absurd (no_lock i t c n on found a)
-  since_lock c n on h t (At k) found a lasts =
+  since_lock c n on h t None found a lasts = absurd (no_lock i t c n on found a)
+  since_lock c n on h t (Some k) found a lasts =
       let locked = locked_by i t k found c n on a in
       let found' = place_stays c i t ∙ found in
       let l = live_in (record_at (step c t).table k) 1 locked.state_is in

@@ -1,5 +1,6 @@
 -- Where an interface's record stands: calls leave it there. Assumes nothing.
-use mathlib.Core.Path.{◌≡◌, refl, sym, ap, ◌∙◌}
+use Rattle.std.specs.Prelude.{None, Some}
+use mathlib.Core.Path.{◌≡◌, refl, sym, ◌∙◌}
 use mathlib.Core.Bool.{true}
 use mathlib.Core.List.{List, [], ◌∷◌}
 use Prim.Native.Nat.{ℕ, suc}
@@ -9,8 +10,6 @@ use Rattle.rules.specs.Call.{Call, step}
 use Rattle.rules.specs.Identity.{same}
 use Rattle.rules.specs.Record.{Rec}
 use Rattle.rules.specs.Table.{records, identity, find_from, find}
-use Rattle.rules.specs.declared.Found.{Found}
-use Rattle.rules.specs.declared.Found.TheVariants.{At, Nothing}
 use Rattle.rules.specs.declared.Identity.{Identity}
 use Rattle.rules.proofs.Identities.{same_sym, same_like}
 use Rattle.rules.proofs.Lookup.{find_at}
@@ -24,29 +23,24 @@ find_like n i who [] e = refl
 find_like n i who (r ∷ rs) e = rw (same_like i who (identity r) e, find_like (suc n) i who rs e)
 
 -- the same identity is found nowhere
-pub nowhere_too : (i who : Identity) (rs : List Rec) → find i rs ≡ Nothing → same i who ≡ true → find who rs ≡ Nothing
+pub nowhere_too : (i who : Identity) (rs : List Rec) → find i rs ≡ None → same i who ≡ true → find who rs ≡ None
 nowhere_too i who rs f e = sym (find_like 0 i who rs e) ∙ f
 
-module _ (i who : Identity) (rs : List Rec) (k : ℕ) (found : find i rs ≡ At k) where
+module _ (i who : Identity) (rs : List Rec) (k : ℕ) (found : find i rs ≡ Some k) where
   -- or at the same place,
-  pub found_too : same i who ≡ true → find who rs ≡ At k
+  pub found_too : same i who ≡ true → find who rs ≡ Some k
   found_too e = sym (find_like 0 i who rs e) ∙ found
 
   -- and what is found there is the same
-  pub who_is : find who rs ≡ At k → same i who ≡ true
+  pub who_is : find who rs ≡ Some k → same i who ≡ true
   who_is e =
       let mine = (find_at i k rs found).here in
       let its = (find_at who k rs e).here in
       same_sym i who ∙ same_like who (identity (get_or rs k [])) i its ∙ same_sym (identity (get_or rs k [])) i ∙ mine
 
 -- and at one place only
-place_of : Found → ℕ
-place_of (At k) = k
-place_of Nothing = 0
-
-pub one_place : (i : Identity) (rs : List Rec) (j k : ℕ) → find i rs ≡ At j → find i rs ≡ At k → j ≡ k
-unfolding place_of
-one_place i rs j k p q = ap place_of (sym p ∙ q)
+pub one_place : (i : Identity) (rs : List Rec) (j k : ℕ) → find i rs ≡ Some j → find i rs ≡ Some k → j ≡ k
+one_place i rs j k p q = cc
 
 -- ---- records with the same identities
 

@@ -1,4 +1,5 @@
 -- The bytes of a report are the same in states 1 and 2: of a record, over a start, over histories. Assumes nothing.
+use Rattle.std.specs.Prelude.{Some}
 use mathlib.Core.Path.{◌≡◌, refl, sym, ap, subst, ◌∙◌}
 use mathlib.Core.Bool.{true}
 use mathlib.Core.List.{List, [], ◌∷◌, ◌++◌}
@@ -13,7 +14,6 @@ use Rattle.rules.specs.Record.{Rec}
 use Rattle.rules.specs.Report.{report_bytes, report_of}
 use Rattle.rules.specs.Request.{Lent, Effect, kind_of, exact_length, get_report, effect}
 use Rattle.rules.specs.Table.{records, record_at, find, table_number}
-use Rattle.rules.specs.declared.Found.TheVariants.{At}
 use Rattle.rules.proofs.Changes.{state_running}
 use Rattle.rules.proofs.Configured.{Configured}
 use Rattle.rules.proofs.Overs.{num_same}
@@ -100,7 +100,7 @@ module _ (l : Lent) (t : List ℕ) (k : ℕ) (on : Reaches l t k 0x84 20) where
 -- ---- the demand
 
 module _ (l m : Lent) (t : List ℕ) (k : ℕ) (a : AsksTwice l m t k) where
-  found_after_all : (h : List Call) → find (named l) (records (run step h t)) ≡ At k
+  found_after_all : (h : List Call) → find (named l) (records (run step h t)) ≡ Some k
   found_after_all h = found_after (named l) h t ∙ a.reaches.found
 
   reaches_again : (h : List Call) → Reaches m (run step h t) k 0x84 20
@@ -149,7 +149,7 @@ module _ (l m : Lent) (t : List ℕ) (k : ℕ) (a : AsksTwice l m t k) where
     runs : live (record_at (step start here).table k) ≡ true
     runs = live_in _ 2 (rw started.record_is (state_running _ (wide (named l) here k (found_after_all before))))
 
-    found_then : find (named l) (records (step start here).table) ≡ At k
+    found_then : find (named l) (records (step start here).table) ≡ Some k
     found_then = place_stays start (named l) here ∙ found_after_all before
 
     lasts_over : Along step (Leaves step (named l)) (before ++ (start ∷ later)) t

@@ -1,8 +1,8 @@
 -- Demand 3, the swap: neighbouring calls that name different interfaces change places anywhere in a history. Assumes nothing.
+use Rattle.std.specs.Prelude.{None, Option, Some}
 use mathlib.Core.Path.{◌≡◌, refl, sym, ap, ◌∙◌}
 use mathlib.Core.Bool.{Bool, true, false}
 use mathlib.Core.List.{List, [], ◌∷◌}
-use mathlib.Core.Option.{Option, none}
 use Prim.Native.Nat.{ℕ}
 use borrow.Author.Tests.{ne_eqb, eqb-true, eqb-false}
 use lib.Dec.{eqb}
@@ -11,8 +11,6 @@ use Rattle.rules.specs.Call.{join, Outcome, answered, register_written, happened
 use Rattle.rules.specs.Identity.{same}
 use Rattle.rules.specs.Record.{Rec}
 use Rattle.rules.specs.Table.{records, record_at, table_number}
-use Rattle.rules.specs.declared.Found.{Found}
-use Rattle.rules.specs.declared.Found.TheVariants.{At, Nothing}
 use Rattle.rules.specs.declared.Identity.{Identity}
 use Rattle.rules.proofs.Joined.{join_records}
 use Rattle.rules.proofs.Stepped.{stays_accepted}
@@ -31,7 +29,7 @@ module _ {x y : Option Identity} {c d : Call} (a : Local x c) (b : Local y d) (a
   after = (step d t).table
 
   -- the other call leaves the record
-  untouched : (k : ℕ) → place_of x (records t) ≡ At k → record_at after k ≡ record_at t k
+  untouched : (k : ℕ) → place_of x (records t) ≡ Some k → record_at after k ≡ record_at t k
   untouched k e =
       ap (λ (rs : List Rec). get_or rs k []) (leaves b t accepted) ∙ put_other (becomes b) (place_of y (records t)) (records t) k (apart (records t) k e)
 
@@ -40,9 +38,9 @@ module _ {x y : Option Identity} {c d : Call} (a : Local x c) (b : Local y d) (a
     given : seen step c after ≡ seen step c t
     given = ap (seen_of c) (a.only after still) ∙ rw (finds d t x) (by (place_of x (records t)) refl) ∙ sym (ap (seen_of c) (a.only t accepted))
       where
-        by : (p : Found) → place_of x (records t) ≡ p → seen_of c (placed a.unknown a.there p after) ≡ seen_of c (placed a.unknown a.there p t)
-        by Nothing e = refl
-        by (At k) e = rw (untouched k e)
+        by : (p : Option ℕ) → place_of x (records t) ≡ p → seen_of c (placed a.unknown a.there p after) ≡ seen_of c (placed a.unknown a.there p t)
+        by None e = refl
+        by (Some k) e = rw (untouched k e)
 
     -- and changes the same
     both : records (step c after).table ≡ put (becomes a) (place_of x (records t)) (put (becomes b) (place_of y (records t)) (records t))
@@ -103,7 +101,7 @@ module _ (c d : Call) (t : List ℕ) where
       on_any (on_accepted_lem a.local b.local (λ rs k p q. different_elsewhere i j x rs k (a.at_most rs k p) (b.at_most rs k q)))
 
   -- and a request that names nobody looks at no record and leaves the table, beside any call
-  module _ (a : Local none c) where
+  module _ (a : Local None c) where
     nobody_accepted : table_number t ≡ 0 → Swap step c d t
     nobody_accepted z =
         let after = stays_accepted d t z in

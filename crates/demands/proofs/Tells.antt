@@ -1,5 +1,5 @@
 -- What the caller sees decides what became of the record: a lock, a start, and what ends it. Assumes nothing.
-use Rattle.std.specs.Prelude.{if◌then◌else◌}
+use Rattle.std.specs.Prelude.{if◌then◌else◌, Err, None, Ok, Result, Some}
 use mathlib.Core.Path.{◌≡◌, refl, sym, ap, ◌∙◌}
 use mathlib.Core.Bool.{Bool, true, false, not, ◌&&◌}
 use mathlib.Core.List.{List, []}
@@ -16,10 +16,9 @@ use Rattle.rules.specs.Lock.{supported}
 use Rattle.rules.specs.Record.{Rec, state, nonce, offset_ok}
 use Rattle.rules.specs.Request.{Lent, Effect, does, fails, kind_of, exact_length, legal_in, message, error_message, verdict, asked_flags, asked_stream, asked_offset, secure, effect, locked, lock_interface, start_interface, running, cleared}
 use Rattle.rules.specs.Table.{records, record_at, record_bytes, find, table_number, lookup_number}
-use Rattle.rules.specs.declared.Found.TheVariants.{At, Nothing}
 use Rattle.rules.specs.declared.Identity.{Identity}
-use Rattle.rules.specs.declared.Verdict.{Verdict}
-use Rattle.rules.specs.declared.Verdict.TheVariants.{Error, Serve}
+use Rattle.rules.specs.declared.RequestError.{RequestError}
+use Rattle.rules.specs.declared.RequestError.TheVariants.{InvalidInterface}
 use Rattle.rules.proofs.Bools.{clash, and_right}
 use Rattle.rules.proofs.Changed.{record_after}
 use Rattle.rules.proofs.Checks.{serves}
@@ -35,7 +34,7 @@ use Rattle.demands.proofs.Turns.{terms, Locked, Runs, locked_is, running_is, cle
 -- ---- a request that is served, well-formed and names the interface is carried out on its record
 
 verdict_serves : (q : List ℕ) (rs : List Rec) (k kind long : ℕ) → byte q 0 ≡ 0x10 → kind_of q ≡ kind → exact_length kind ≡ long → (long ≡ 0 → ⊥) → length q ≡ long
-    → find (identity_at q 4) rs ≡ At k → verdict q rs ≡ Serve k
+    → find (identity_at q 4) rs ≡ Some k → verdict q rs ≡ Ok k
 unfolding verdict
 verdict_serves q rs k kind long v e w n h f = rw (v, e, w, ne_eqb long 0 n, h, eq-eqb long long refl, f)
 
@@ -66,15 +65,15 @@ module _ (l : Lent) (t : List ℕ) where
         is = e;
       }
 
-  served_is : (v : Verdict) → verdict l.request (records t) ≡ v → (answered l t).number ≡ 0 → answered l t ≡ carried_out v l t
-  served_is v e z = (past z).is ∙ ap (λ (x : Verdict). carried_out x l t) e
+  served_is : (v : Result ℕ RequestError) → verdict l.request (records t) ≡ v → (answered l t).number ≡ 0 → answered l t ≡ carried_out v l t
+  served_is v e z = (past z).is ∙ ap (λ (x : Result ℕ RequestError). carried_out x l t) e
 
 -- record k was in CONFIG_LOCKED, and runs
 pub record Started (t : List ℕ) (k : ℕ) (c : Call) : Type 0 where
   pub state_was : state (record_at t k) ≡ 1
   pub record_is : record_at (step c t).table k ≡ running (record_at t k)
 
-module _ (i : Identity) (t : List ℕ) (k : ℕ) (found : find i (records t) ≡ At k) where
+module _ (i : Identity) (t : List ℕ) (k : ℕ) (found : find i (records t) ≡ Some k) where
   abbrev r : Rec
   r = record_at t k
 
@@ -84,7 +83,7 @@ module _ (i : Identity) (t : List ℕ) (k : ℕ) (found : find i (records t) ≡
   -- what a request of a type leaves of the record
   module _ (l : Lent) (kind length_of : ℕ) (asks : Asks i kind length_of l) (listed : exact_length kind ≡ length_of) (not_none : length_of ≡ 0 → ⊥)
       (served-it : (answered l t).number ≡ 0) where
-    told : verdict l.request (records t) ≡ Serve k
+    told : verdict l.request (records t) ≡ Ok k
     told =
         verdict_serves l.request (records t) k kind length_of asks.version_is asks.kind_is listed not_none asks.length_is
         (found_too i (identity_at l.request 4) (records t) k found asks.who_is)
@@ -94,8 +93,8 @@ module _ (i : Identity) (t : List ℕ) (k : ℕ) (found : find i (records t) ≡
         let p = past l t served-it in
         record { accepted = p.accepted; found = (serves k (verdict l.request (records t)) l.request t refl told).found; nonce_long = p.nonce_long; told = told }
 
-    is_carried : answered l t ≡ carried_out (Serve k) l t
-    is_carried = served_is l t (Serve k) told served-it
+    is_carried : answered l t ≡ carried_out (Ok k) l t
+    is_carried = served_is l t (Ok k) told served-it
 
     -- the record afterwards, and the reply
     record_is : record_at (answered l t).table k ≡ (effect l r).rec
@@ -240,16 +239,16 @@ module _ (i : Identity) (t : List ℕ) (k : ℕ) (found : find i (records t) ≡
 
 -- ---- an interface that is no record's is never locked
 
-verdict_unknown : (q : List ℕ) (rs : List Rec) → byte q 0 ≡ 0x10 → kind_of q ≡ 0x83 → length q ≡ 36 → find (identity_at q 4) rs ≡ Nothing → verdict q rs ≡ Error 0x101 0
+verdict_unknown : (q : List ℕ) (rs : List Rec) → byte q 0 ≡ 0x10 → kind_of q ≡ 0x83 → length q ≡ 36 → find (identity_at q 4) rs ≡ None → verdict q rs ≡ Err InvalidInterface
 unfolding verdict exact_length
 verdict_unknown q rs v e h f = rw (v, e, h, f)
 
-no_lock_request : (i : Identity) (t : List ℕ) (l : Lent) (n : List ℕ) → find i (records t) ≡ Nothing → Asks i 0x83 36 l → (answered l t).number ≡ 0
+no_lock_request : (i : Identity) (t : List ℕ) (l : Lent) (n : List ℕ) → find i (records t) ≡ None → Asks i 0x83 36 l → (answered l t).number ≡ 0
     → reply_of (seen step (Request l) t) ≡ message 0x03 l.request n → ⊥
 no_lock_request i t l n f a z q =
     let unknown = verdict_unknown l.request (records t) a.version_is a.kind_is a.length_is (nowhere_too i (identity_at l.request 4) (records t) f a.who_is) in
-    let errs = served_is l t (Error 0x101 0) unknown z in
+    let errs = served_is l t (Err InvalidInterface) unknown z in
     omega (arith, kind_same 0x7f 0x03 l.request l.request _ n (sym (front_is (error_message 0x101 0 l.request) l.reply) ∙ (rw errs at q)))
 
-pub no_lock : (i : Identity) (t : List ℕ) (c : Call) (n : List ℕ) (on : Terms) → find i (records t) ≡ Nothing → AcceptedLock i n on (seen step c t) → ⊥
+pub no_lock : (i : Identity) (t : List ℕ) (c : Call) (n : List ℕ) (on : Terms) → find i (records t) ≡ None → AcceptedLock i n on (seen step c t) → ⊥
 no_lock i t c n on f a = let e = a.call_is in no_lock_request i t a.lent n f a.asks (rw e at a.served) (rw e at a.reply_is)

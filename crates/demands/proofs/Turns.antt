@@ -1,5 +1,5 @@
 -- What one call does to the record of an interface, and what the caller sees of it. Assumes nothing.
-use Rattle.std.specs.Prelude.{if◌then◌else◌}
+use Rattle.std.specs.Prelude.{if◌then◌else◌, Ok, Some}
 use mathlib.Core.Path.{◌≡◌, refl, sym, ap, ◌∙◌}
 use mathlib.Core.Bool.{Bool, true, false, not, ◌||◌}
 use mathlib.Core.List.{List, []}
@@ -18,10 +18,8 @@ use Rattle.rules.specs.Request.{Lent, Effect, kind_of, exact_length, message, ve
 use Rattle.rules.specs.Table.{records, record_at, record_bytes, identity, names, find, table_number, lookup_number}
 use Rattle.rules.specs.declared.Event.{Event}
 use Rattle.rules.specs.declared.Event.TheVariants.{Multicast, StreamDown, SessionEnd}
-use Rattle.rules.specs.declared.Found.TheVariants.{At}
 use Rattle.rules.specs.declared.Identity.{Identity}
 use Rattle.rules.specs.declared.Rule.{Rule}
-use Rattle.rules.specs.declared.Verdict.TheVariants.{Serve}
 use Rattle.rules.proofs.Bools.{and_right, and_true, and_false}
 use Rattle.rules.proofs.Changed.{record_after}
 use Rattle.rules.proofs.Changes.{state_cleared, state_running, flags_running, stream_running, session_running, state_locked, flags_locked, stream_locked, session_locked, nonce_locked}
@@ -78,7 +76,7 @@ module _ (r : Rec) (wide : length r ≡ record_bytes) where
 -- ---- a request that is carried out on record k
 
 -- the checks that a request passed
-module _ (i : Identity) (l : Lent) (t : List ℕ) (k : ℕ) (found : find i (records t) ≡ At k) (told : verdict l.request (records t) ≡ Serve k) where
+module _ (i : Identity) (l : Lent) (t : List ℕ) (k : ℕ) (found : find i (records t) ≡ Some k) (told : verdict l.request (records t) ≡ Ok k) where
   asks : (kind wide : ℕ) → kind_of l.request ≡ kind → exact_length kind ≡ wide → Asks i kind wide l
   asks kind wide e w =
       let s = serves k (verdict l.request (records t)) l.request t refl told in
@@ -109,7 +107,7 @@ moved_turn i e r p wide z q = by (moves p r) refl
     by true h = ends (λ l. Ends.changed z (sym q ∙ and_right (live r) (p r) h)) (rw (moved_is p r h) (cleared_dead r wide 3 refl))
     by false h = stays (stays_is p r h)
 
-module _ (i : Identity) (t : List ℕ) (k : ℕ) (found : find i (records t) ≡ At k) where
+module _ (i : Identity) (t : List ℕ) (k : ℕ) (found : find i (records t) ≡ Some k) where
   abbrev r : Rec
   r = record_at t k
 
@@ -173,7 +171,7 @@ module _ (i : Identity) (t : List ℕ) (k : ℕ) (found : find i (records t) ≡
       by o (Answers.errs code datum) = stays refl
       by o (Answers.carries j on) = go (eqb j k) refl
         where
-          go : (b : Bool) → eqb j k ≡ b → gives (Request l) (carried_out (Serve j) l t)
+          go : (b : Bool) → eqb j k ≡ b → gives (Request l) (carried_out (Ok j) l t)
           go true e =
               let q = eqb-true j k e in
               let mine : OnRecord l t k = rw q at on in

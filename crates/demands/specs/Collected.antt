@@ -1,6 +1,6 @@
 -- Document 02, 2/12: "However an honest responder's report is cut, if each portion is asked at that OFFSET and one lock stands from first to last,
 -- the finished collection equals the whole report and goes straight to the reader of 01."
-use Rattle.std.specs.Prelude.{◌≡◌, true, false, List, [], ◌∷◌, ◌++◌, ℕ, ◌+◌, ◌*◌, ◌≤◌, min, length, take}
+use Rattle.std.specs.Prelude.{◌≡◌, true, false, List, [], ◌∷◌, ◌++◌, ℕ, ◌+◌, ◌*◌, ◌≤◌, min, length, take, Ok, Some}
 use Rattle.rules.specs.Bytes.{Bytes, num}
 use Rattle.rules.specs.Call.{Call, Request}
 use Rattle.rules.specs.Collector.{Collection, fresh, next_offset, held_bytes, finished, portion_verdict, collected}
@@ -9,9 +9,7 @@ use Rattle.rules.specs.Record.{Rec}
 use Rattle.rules.specs.Report.{most_portion, report_bytes, report_of, report_total, read_number, handed_back}
 use Rattle.rules.specs.Request.{Lent}
 use Rattle.rules.specs.Table.{records, record_at, find, table_number}
-use Rattle.rules.specs.declared.Found.TheVariants.{At}
 use Rattle.rules.specs.declared.Identity.{Identity}
-use Rattle.rules.specs.declared.PortionVerdict.TheVariants.{Taken}
 use Rattle.demands.specs.Machine.{Machine, reply_of, seen, run, trace}
 use Rattle.demands.specs.Exactly.{Arrives, LockStands}
 use Rattle.demands.specs.Histories.{Terms, Asks, AcceptedLock, Lasts}
@@ -68,7 +66,7 @@ module _ (next : Machine) where
 
   -- One lock stands from first to last: i's record, at place k, is in CONFIG_LOCKED or RUN as the calls begin and after each of them.
   pub record OneLock (i : Identity) (k : ℕ) (h : List Call) (t : List ℕ) : Type 0 where
-    pub found : find i (records t) ≡ At k
+    pub found : find i (records t) ≡ Some k
     pub stands : LockStands (record_at t k)
     pub lasting : Along next (Leaves next i) h t
 
@@ -111,7 +109,7 @@ FinishedIsWhole next =
 
 -- a reply that is taken, and brings what was asked for: the LENGTH, 128 bytes or what is left, whichever is least
 pub record TakesMore (c : Collection) (l : Lent) (total : ℕ) (p : List ℕ) : Type 0 where
-  pub taken : portion_verdict c p ≡ Taken
+  pub taken : portion_verdict c p ≡ Ok tt
   pub more : min (c.held + min (length_asked l) most_portion) total ≤ (collected c p).held
 
 -- After any such asks and any calls more over the lock: while the collection is not finished, the next ask's reply is taken, if no refusal of 01
@@ -130,7 +128,7 @@ ElsewhereRefused next =
     (id k : ℕ) (asks : List Ask) (more : List Call) (l : Lent) (t : List ℕ) → Collects next id k asks t
     → Along next (Leaves next (identity_of id)) more (run next (calls asks) t) → Asks (identity_of id) 0x84 20 l
     → (collection next asks (fresh id) t).begun ≡ true → (num l.request 16 2 ≡ next_offset (collection next asks (fresh id) t) → ⊥)
-    → portion_verdict (collection next asks (fresh id) t) (reply_to next l (run next more (run next (calls asks) t))) ≡ Taken → ⊥
+    → portion_verdict (collection next asks (fresh id) t) (reply_to next l (run next more (run next (calls asks) t))) ≡ Ok tt → ⊥
 
 -- asks that no refusal stops, of LENGTHs of at least n
 pub data Answered (next : Machine) (n : ℕ) : List Ask → List ℕ → Type 0 where

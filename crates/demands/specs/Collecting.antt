@@ -1,18 +1,17 @@
 -- Document 02, 2/12: what taking and refusing do to a collector, whatever the replies are, honest or not: 02's sentences, one by one, stated of any
 -- collector: what it finds of a reply, and what becomes of it.
-use Rattle.std.specs.Prelude.{◌≡◌, true, not, ◌&&◌, ◌||◌, List, [], ◌∷◌, ◌++◌, ℕ, ◌+◌, ◌-◌, ◌≤◌, eqb, ltb, length, drop}
+use Rattle.std.specs.Prelude.{◌≡◌, true, not, ◌&&◌, ◌||◌, List, [], ◌∷◌, ◌++◌, ℕ, ◌+◌, ◌-◌, ◌≤◌, eqb, ltb, length, drop, Ok, Result}
 use Rattle.rules.specs.Bytes.{byte, num, blank}
 use Rattle.rules.specs.Collector.{Collection, fresh, held_bytes, finished, portion_number, portion_verdict, collected}
 use Rattle.rules.specs.Identity.{identity_of, identity_at, same}
 use Rattle.rules.specs.Report.{most_report}
-use Rattle.rules.specs.declared.PortionVerdict.{PortionVerdict}
-use Rattle.rules.specs.declared.PortionVerdict.TheVariants.{Taken}
+use Rattle.rules.specs.declared.PortionRefusal.{PortionRefusal}
 use Rattle.demands.specs.Answers.{Line, line, first_of}
 
 -- ---- collectors
 
 pub record Collecting : Type 0 where
-  pub finds : Collection → List ℕ → PortionVerdict
+  pub finds : Collection → List ℕ → Result Unit PortionRefusal
   pub after : Collection → List ℕ → Collection
 
 -- the right one: what `take` promises to return
@@ -56,12 +55,12 @@ pub record TakesRightly (x : Collecting) : Type 0 where
   -- It refuses by the first of these names that applies.
   pub name_is : (c : Collection) (p : List ℕ) → portion_number (x.finds c p) ≡ first_of (portion_lines c p)
   -- A refused reply leaves it as it was.
-  pub refused_leaves : (c : Collection) (p : List ℕ) → (x.finds c p ≡ Taken → ⊥) → x.after c p ≡ c
+  pub refused_leaves : (c : Collection) (p : List ℕ) → (x.finds c p ≡ Ok tt → ⊥) → x.after c p ≡ c
   -- One that is taken goes behind the bytes held, of which there are 200 places, and moves the count by its portion;
-  pub taken_bytes : (c : Collection) (p : List ℕ) → length c.bytes ≡ most_report → x.finds c p ≡ Taken → held_bytes (x.after c p) ≡ held_bytes c ++ drop 20 p
-  pub taken_counts : (c : Collection) (p : List ℕ) → x.finds c p ≡ Taken → (x.after c p).held ≡ c.held + num p 16 2
+  pub taken_bytes : (c : Collection) (p : List ℕ) → length c.bytes ≡ most_report → x.finds c p ≡ Ok tt → held_bytes (x.after c p) ≡ held_bytes c ++ drop 20 p
+  pub taken_counts : (c : Collection) (p : List ℕ) → x.finds c p ≡ Ok tt → (x.after c p).held ≡ c.held + num p 16 2
   -- its total is the "before" of those that come.
-  pub taken_fixes : (c : Collection) (p : List ℕ) → x.finds c p ≡ Taken → ((x.after c p).begun ≡ true) × ((x.after c p).total ≡ said_total c p)
+  pub taken_fixes : (c : Collection) (p : List ℕ) → x.finds c p ≡ Ok tt → ((x.after c p).begun ≡ true) × ((x.after c p).total ≡ said_total c p)
   -- "Before" is the total of the first reply taken: it stays.
   pub total_stays : (c : Collection) (p : List ℕ) → c.begun ≡ true → (x.after c p).total ≡ c.total
   -- A portion of 0 moves nothing.

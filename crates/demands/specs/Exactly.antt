@@ -1,6 +1,6 @@
 -- Demand 2: every request gets exactly the reply and next record that 01 calls for; every event moves exactly the records 01 names and
 -- returns their number; every lock meeting 01's conditions is accepted. (`Reports` has what it says of reports.)
-use Rattle.std.specs.Prelude.{◌≡◌, true, false, List, [], ◌∷◌, map, ℕ, ◌+◌, ◌≤◌, ◌<◌, length, set}
+use Rattle.std.specs.Prelude.{◌≡◌, true, false, List, [], ◌∷◌, map, ℕ, ◌+◌, ◌≤◌, ◌<◌, length, set, None, Some}
 use Rattle.rules.specs.Bytes.{byte, num, bit_clear, part, same_bytes}
 use Rattle.rules.specs.Call.{join, refused, served, most_reply, Request, RegisterWrite, DeviceWide, FirmwareQuestion}
 use Rattle.rules.specs.Change.{rule_of, hits, write_hits, moved, differing, lets}
@@ -11,7 +11,6 @@ use Rattle.rules.specs.Report.{most_portion, report_total, portion_bytes}
 use Rattle.rules.specs.Request.{Lent, kind_of, exact_length, legal_in, error_message, message, capabilities, asked_flags, asked_stream, asked_offset, secure, locked, running, cleared}
 use Rattle.rules.specs.Table.{records, record_at, find, table_number}
 use Rattle.rules.specs.declared.Event.{Event}
-use Rattle.rules.specs.declared.Found.TheVariants.{At, Nothing}
 use Rattle.demands.specs.Machine.{Machine}
 
 -- ---- requests
@@ -33,7 +32,7 @@ pub record Reaches (l : Lent) (t : List ℕ) (k kind long : ℕ) : Type 0 where
   pub version_is : byte l.request 0 ≡ 0x10
   pub kind_is : kind_of l.request ≡ kind
   pub length_is : length l.request ≡ long
-  pub found : find (identity_at l.request 4) (records t) ≡ At k
+  pub found : find (identity_at l.request 4) (records t) ≡ Some k
 
 -- 02, 1/12: the states in which a report may be asked for are 1 and 2, those in which a lock stands
 pub data LockStands (r : Rec) : Type 0 where
@@ -71,7 +70,7 @@ module _ (next : Machine) where
         → (length l.request ≡ exact_length (kind_of l.request) → ⊥) → Errs l t 0x01 0
     -- interface unknown, 101h INVALID_INTERFACE
     pub unknown : (l : Lent) (t : List ℕ) → Arrives l t → byte l.request 0 ≡ 0x10 → (exact_length (kind_of l.request) ≡ 0 → ⊥)
-        → length l.request ≡ exact_length (kind_of l.request) → find (identity_at l.request 4) (records t) ≡ Nothing → Errs l t 0x101 0
+        → length l.request ≡ exact_length (kind_of l.request) → find (identity_at l.request 4) (records t) ≡ None → Errs l t 0x101 0
     -- state, 04h INVALID_INTERFACE_STATE
     pub wrong_state : (l : Lent) (t : List ℕ) (k kind : ℕ) → Reaches l t k kind (exact_length kind) → (exact_length kind ≡ 0 → ⊥)
         → legal_in kind (state (record_at t k)) ≡ false → Gets l t k (error_message 0x04 0 l.request) (record_at t k)
@@ -125,11 +124,11 @@ module _ (next : Machine) where
     pub event_moves : (e : Event) (t : List ℕ) → table_number t ≡ 0 → (next (DeviceWide e) t).table ≡ join (map (moved (hits e)) (records t))
     -- and the count is the number of records whose state differs before and after
     pub event_counts : (e : Event) (t : List ℕ) → table_number t ≡ 0 → (next (DeviceWide e) t).value ≡ differing (records t) (records (next (DeviceWide e) t).table)
-    pub write_moves : (id class place : ℕ) (t : List ℕ) → table_number t ≡ 0 → find (identity_of id) (records t) ≡ At place
+    pub write_moves : (id class place : ℕ) (t : List ℕ) → table_number t ≡ 0 → find (identity_of id) (records t) ≡ Some place
         → (next (RegisterWrite id class) t).table ≡ join (map (moved (write_hits (rule_of class) (identity_of id))) (records t))
-    pub write_counts : (id class place : ℕ) (t : List ℕ) → table_number t ≡ 0 → find (identity_of id) (records t) ≡ At place
+    pub write_counts : (id class place : ℕ) (t : List ℕ) → table_number t ≡ 0 → find (identity_of id) (records t) ≡ Some place
         → (next (RegisterWrite id class) t).value ≡ differing (records t) (records (next (RegisterWrite id class) t).table)
-    pub write_unknown : (id class : ℕ) (t : List ℕ) → table_number t ≡ 0 → find (identity_of id) (records t) ≡ Nothing → next (RegisterWrite id class) t ≡ refused 7 [] t
+    pub write_unknown : (id class : ℕ) (t : List ℕ) → table_number t ≡ 0 → find (identity_of id) (records t) ≡ None → next (RegisterWrite id class) t ≡ refused 7 [] t
     -- the firmware question is yes exactly if every record lets it, and leaves the table
     pub firmware_yes : (t : List ℕ) → table_number t ≡ 0 → ((k : ℕ) → k < length (records t) → lets (record_at t k) ≡ true) → (next FirmwareQuestion t).value ≡ 1
     pub firmware_no : (t : List ℕ) → table_number t ≡ 0 → (k : ℕ) → k < length (records t) → lets (record_at t k) ≡ false → (next FirmwareQuestion t).value ≡ 0

@@ -1,7 +1,7 @@
 -- Demand 3, RUN: from an accepted table with all interfaces in CONFIG_UNLOCKED, after any history of calls, refused ones included, an
 -- interface is in RUN exactly when it had an accepted lock, later a served, well-formed start naming it with that lock's nonce, and since
 -- that lock no accepted stop naming it and no served change that 01 sends to ERROR. What the history says names no table.
-use Rattle.std.specs.Prelude.{◌≡◌, ◌↔◌, Bool, true, false, ◌&&◌, List, [], ◌∷◌, ◌++◌, ℕ, eqb, length}
+use Rattle.std.specs.Prelude.{◌≡◌, ◌↔◌, Bool, true, false, ◌&&◌, List, [], ◌∷◌, ◌++◌, ℕ, eqb, length, Some}
 use Rattle.rules.specs.Bytes.{byte, bit_set, part}
 use Rattle.rules.specs.Call.{Call, Request, RegisterWrite, DeviceWide, FirmwareQuestion}
 use Rattle.rules.specs.Change.{rule_of}
@@ -11,7 +11,6 @@ use Rattle.rules.specs.Request.{Lent, kind_of, asked_flags, asked_stream, messag
 use Rattle.rules.specs.Table.{records, record_at, all, find, table_number}
 use Rattle.rules.specs.declared.Event.{Event}
 use Rattle.rules.specs.declared.Event.TheVariants.{Multicast, StreamDown, SessionEnd}
-use Rattle.rules.specs.declared.Found.TheVariants.{At}
 use Rattle.rules.specs.declared.Identity.{Identity}
 use Rattle.rules.specs.declared.Rule.{Rule}
 use Rattle.demands.specs.Machine.{Machine, Seen, reply_of, run, trace, Each}
@@ -99,7 +98,7 @@ pub record RanSince (i : Identity) (es : List Seen) : Type 0 where
 -- i is in RUN in the table
 pub record InRun (i : Identity) (t : List ℕ) : Type 0 where
   pub place : ℕ
-  pub found : find i (records t) ≡ At place
+  pub found : find i (records t) ≡ Some place
   pub running : state (record_at t place) ≡ RUN
 
 abbrev pub unlocked : Rec → Bool

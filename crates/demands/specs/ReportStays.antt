@@ -1,6 +1,6 @@
 -- Document 02, 1/12: "The bytes are the same in both states, because a report shows how the interface was locked." What a report is not told
 -- from; a start leaves it; and, while a lock stands, a portion asked for again gets the same reply.
-use Rattle.std.specs.Prelude.{◌≡◌, Bool, true, false, List, [], ◌∷◌, ◌++◌, ◌⊎◌, ℕ, ◌≤◌, ◌<◌, length}
+use Rattle.std.specs.Prelude.{◌≡◌, Bool, true, false, List, [], ◌∷◌, ◌++◌, ◌⊎◌, ℕ, ◌≤◌, ◌<◌, length, Some}
 use Rattle.rules.specs.Bytes.{byte}
 use Rattle.rules.specs.Call.{Call, Request, RegisterWrite, DeviceWide, FirmwareQuestion}
 use Rattle.rules.specs.Change.{rule_of, device_wide}
@@ -9,7 +9,6 @@ use Rattle.rules.specs.Record.{Rec, state}
 use Rattle.rules.specs.Report.{report_bytes, report_of, report_total, portion_bytes}
 use Rattle.rules.specs.Request.{Lent, message}
 use Rattle.rules.specs.Table.{records, record_at, find}
-use Rattle.rules.specs.declared.Found.TheVariants.{At}
 use Rattle.rules.specs.declared.Identity.{Identity}
 use Rattle.demands.specs.Machine.{Machine, Seen, reply_of, seen, run}
 use Rattle.demands.specs.Exactly.{Reaches, LockStands}
@@ -52,7 +51,7 @@ pub record SameReport (s r : Rec) : Type 0 where
 
 abbrev pub StartLeavesReport : Machine → Type 0
 StartLeavesReport next =
-    (i : Identity) (c : Call) (t : List ℕ) (k : ℕ) → find i (records t) ≡ At k → AcceptedStart i (seen next c t)
+    (i : Identity) (c : Call) (t : List ℕ) (k : ℕ) → find i (records t) ≡ Some k → AcceptedStart i (seen next c t)
     → SameReport (record_at (next c t).table k) (record_at t k)
 
 -- ---- over histories
@@ -60,7 +59,7 @@ StartLeavesReport next =
 -- i is in state 1 or 2 in the table
 pub record Locked (i : Identity) (t : List ℕ) : Type 0 where
   pub place : ℕ
-  pub found : find i (records t) ≡ At place
+  pub found : find i (records t) ≡ Some place
   pub stands : LockStands (record_at t place)
 
 -- stream down, session end, multicast and a register write of class 10
@@ -103,7 +102,7 @@ module _ (next : Machine) where
   -- the call does not name i, and is no event that moves it
   pub record PassesBy (i : Identity) (c : Call) (t : List ℕ) : Type 0 where
     pub not_named : (j : Identity) → Names j c → same i j ≡ false
-    pub not_moved : is_event c ≡ true → (k : ℕ) → find i (records t) ≡ At k → state (record_at (next c t).table k) ≡ state (record_at t k)
+    pub not_moved : is_event c ≡ true → (k : ℕ) → find i (records t) ≡ Some k → state (record_at (next c t).table k) ≡ state (record_at t k)
 
   -- On any table, so anywhere in any history: asked for twice, a portion gets the same reply, whatever comes between, if the interface is in
   -- state 1 or 2 before it and after each call.

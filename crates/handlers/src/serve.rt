@@ -1,66 +1,60 @@
 // The state check, and then the request's own, by its type.
 ghost use Rattle.std.specs.Prelude.{◌≡◌, true, ◌≤◌, length};
 ghost use Rattle.rules.specs.Record.{record_ok};
-ghost use Rattle.rules.specs.Request.{kind_of, exact_length, lent, effect, gets};
-ghost use Rattle.rules.specs.Table.{record_bytes};
-ghost use Rattle.locks.specs.Does.{Does};
+ghost use Rattle.rules.specs.Request.{kind_of, exact_length, effect, gets};
+ghost use Rattle.locks.specs.Does.{Does, lent_with};
 ghost use Rattle.replies.specs.Replies.{Replies};
 
 use crate::get::{get_capabilities, get_report, get_state, get_version};
 use checks::legal;
 use locks::lock::lock_interface;
 use locks::start::{start_interface, stop_interface};
-use replies::put_error;
-use rules::Session;
+use portions::record::Record;
+use replies::put_failure;
 use rules::place::STATE;
 use rules::request::{
-    GET_DEVICE_INTERFACE_REPORT, GET_TDISP_CAPABILITIES, GET_TDISP_VERSION,
-    INVALID_INTERFACE_STATE, LOCK_INTERFACE, START_INTERFACE, STOP_INTERFACE,
+    GET_DEVICE_INTERFACE_REPORT, GET_TDISP_CAPABILITIES, GET_TDISP_VERSION, LOCK_INTERFACE,
+    START_INTERFACE, STOP_INTERFACE,
 };
+use rules::{Inputs, RECORD_BYTES, RequestError};
+use wire::message::Message;
 
 // 81h, 82h, 84h and 85h: the record stays.
-fn get(request: &[u8], reply: &mut [u8], r: &[u8]) -> usize
-    requires { (16 ≤ length request.now) × (length request.now ≡ exact_length (kind_of request.now)) × (256 ≤ length reply.old) × (length r.now ≡ record_bytes) × (record_ok r.now ≡ true) }
-    ensures { Replies (gets request.now r.now).reply result reply.old reply.new }
+#[tactic(auto, using(rules::proofs::Serves::report_room), unfolding(rules::specs::Request::gets))]
+fn get(request: &Message, reply: &mut [u8], r: Record) -> usize
+    requires exact { length request.now ≡ exact_length (kind_of request.now) }
+    requires room { 256 ≤ length reply.old }
+    ensures { Replies (gets request.now r.entry.bytes.now).reply result reply.old reply.new }
 {
-    let kind = request[1];
-    if kind == GET_TDISP_VERSION {
-        return get_version(request, reply);
+    match request.kind() {
+        GET_TDISP_VERSION => get_version(request, reply),
+        GET_TDISP_CAPABILITIES => get_capabilities(request, reply),
+        GET_DEVICE_INTERFACE_REPORT => get_report(request, reply, r),
+        _ => get_state(request, reply, r.bytes),
     }
-    if kind == GET_TDISP_CAPABILITIES {
-        return get_capabilities(request, reply);
-    }
-    if kind == GET_DEVICE_INTERFACE_REPORT {
-        return get_report(request, reply, r);
-    }
-    get_state(request, reply, r)
 }
 
 // What a request does to the record that it names.
+#[tactic(auto, using(rules::proofs::Serves::lock_room, rules::proofs::Serves::start_room, rules::proofs::Serves::gets_keeps), unfolding(rules::specs::Request::effect))]
 pub fn serve(
-    request: &[u8],
+    request: &Message,
     reply: &mut [u8],
-    r: &mut [u8],
-    nonce: &[u8],
-    ready: bool,
-    streams: &[u8],
-    session: Session,
+    r: &mut [u8; RECORD_BYTES],
+    inputs: &Inputs,
 ) -> usize
-    requires { (16 ≤ length request.now) × (length request.now ≡ exact_length (kind_of request.now)) × (256 ≤ length reply.old) × (length r.old ≡ record_bytes) × (record_ok r.old ≡ true) × (length nonce.now ≡ 32) × (length streams.now ≡ 32) }
-    ensures { Does (effect (lent request.now reply.old nonce.now ready streams.now session) r.old) result reply.old reply.new r.new }
+    requires exact { length request.now ≡ exact_length (kind_of request.now) }
+    requires room { 256 ≤ length reply.old }
+    requires kept { record_ok r.old ≡ true }
+    ensures { Does (effect (lent_with request.now reply.old inputs.now) r.old) result reply.old reply.new r.new }
 {
-    let kind = request[1];
+    let kind = request.kind();
     if !legal(kind, r[STATE]) {
-        return put_error(INVALID_INTERFACE_STATE, 0, request, reply);
+        return put_failure(RequestError::InvalidInterfaceState, request, reply);
     }
-    if kind == LOCK_INTERFACE {
-        return lock_interface(request, reply, r, nonce, ready, streams, session);
+    match kind {
+        LOCK_INTERFACE => lock_interface(request, reply, r, inputs),
+        START_INTERFACE => start_interface(request, reply, r),
+        STOP_INTERFACE => stop_interface(request, reply, r),
+        _ => get(request, reply, Record { bytes: r }),
     }
-    if kind == START_INTERFACE {
-        return start_interface(request, reply, r);
-    }
-    if kind == STOP_INTERFACE {
-        return stop_interface(request, reply, r);
-    }
-    get(request, reply, r)
 }

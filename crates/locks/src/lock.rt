@@ -1,57 +1,73 @@
 // 83h LOCK_INTERFACE.
-ghost use Rattle.std.specs.Prelude.{◌≡◌, true, ◌≤◌, length};
+ghost use Rattle.std.specs.Prelude.{◌≡◌, [], true, ◌≤◌, length};
 ghost use Rattle.rules.specs.Record.{record_ok};
-ghost use Rattle.rules.specs.Request.{lent, secure, lock_interface};
-ghost use Rattle.rules.specs.Table.{record_bytes};
-ghost use Rattle.locks.specs.Does.{Does};
+ghost use Rattle.rules.specs.Request.{secure, lock_interface};
+ghost use Rattle.locks.specs.Does.{Does, lent_with, lock_told};
 
 use moves::record::lock_record;
 use records::lock::offset_ok;
-use replies::{put_error, put_message};
+use replies::{put_failure, put_message};
 use rules::flags::LockFlags;
-use rules::request::{
-    INSUFFICIENT_ENTROPY, INVALID_DEVICE_CONFIGURATION, INVALID_REQUEST, LOCK_FLAGS, LOCK_OFFSET,
-    LOCK_STREAM,
-};
-use rules::{Session, Stream};
-use wire::number::{num16, num64};
+use rules::request::{INPUT_BYTES, LOCK_FLAGS, LOCK_INTERFACE_RESPONSE, LOCK_OFFSET, LOCK_STREAM};
+use rules::{Inputs, RECORD_BYTES, RequestError, Stream};
+use wire::message::Message;
+use wire::number::LowFirst;
 
 // Bit k of byte j of the map: stream 8j+k is secure.
-fn is_secure(streams: &[u8], stream: Stream) -> bool
-    requires { length streams.now ≡ 32 }
+fn is_secure(streams: &[u8; INPUT_BYTES], stream: Stream) -> bool
     ensures { result ≡ secure streams.now stream }
 {
     let n = stream.0;
-    let j = (n / 8) as usize;
+    let j = usize::from(n / 8);
     let k = n % 8;
-    streams[j] >> k & 1 == 1
+    (streams[j] >> k) % 2 == 1
 }
 
 // The lock's own checks in order: 01h, 01h, 104h, 103h; then it is accepted.
-pub fn lock_interface(
-    request: &[u8],
-    reply: &mut [u8],
-    r: &mut [u8],
-    nonce: &[u8],
-    ready: bool,
-    streams: &[u8],
-    session: Session,
-) -> usize
-    requires { (36 ≤ length request.now) × (256 ≤ length reply.old) × (length r.old ≡ record_bytes) × (record_ok r.old ≡ true) × (length nonce.now ≡ 32) × (length streams.now ≡ 32) }
-    ensures { Does (lock_interface (lent request.now reply.old nonce.now ready streams.now session) r.old) result reply.old reply.new r.new }
+#[tactic(auto, using(rules::proofs::Kept::count_most, rules::proofs::Kept::ranges_kept), unfolding(rules::specs::Request::lock_interface))]
+fn check_lock(
+    request: &Message,
+    r: &[u8; RECORD_BYTES],
+    inputs: &Inputs,
+) -> Result<(), RequestError>
+    requires fields { 36 ≤ length request.now }
+    requires kept { record_ok r.now ≡ true }
+    ensures { lock_interface (lent_with request.now [] inputs.now) r.now ≡ lock_told result (lent_with request.now [] inputs.now) r.now }
 {
-    if !LockFlags(num16(request, LOCK_FLAGS)).supported() {
-        return put_error(INVALID_REQUEST, 0, request, reply);
+    if !LockFlags(u16::read(request.bytes, LOCK_FLAGS)).supported() {
+        return Err(RequestError::InvalidRequest);
     }
-    if !offset_ok(r, num64(request, LOCK_OFFSET)) {
-        return put_error(INVALID_REQUEST, 0, request, reply);
+    if !offset_ok(r, u64::read(request.bytes, LOCK_OFFSET)) {
+        return Err(RequestError::InvalidRequest);
     }
-    if !is_secure(streams, Stream(request[LOCK_STREAM])) {
-        return put_error(INVALID_DEVICE_CONFIGURATION, 0, request, reply);
+    if !is_secure(inputs.streams, Stream(request.bytes[LOCK_STREAM])) {
+        return Err(RequestError::InvalidDeviceConfiguration);
     }
-    if !ready {
-        return put_error(INSUFFICIENT_ENTROPY, 0, request, reply);
+    if !inputs.ready {
+        return Err(RequestError::InsufficientEntropy);
     }
-    lock_record(r, request, nonce, session);
-    put_message(0x03, request, nonce, reply)
+    Ok(())
+}
+
+// A lock that its checks let pass: the record is locked, and the nonce replied.
+#[tactic(auto, unfolding(rules::specs::Request::lock_interface))]
+pub fn lock_interface(
+    request: &Message,
+    reply: &mut [u8],
+    r: &mut [u8; RECORD_BYTES],
+    inputs: &Inputs,
+) -> usize
+    requires fields { 36 ≤ length request.now }
+    requires room { 256 ≤ length reply.old }
+    requires kept { record_ok r.old ≡ true }
+    ensures { Does (lock_interface (lent_with request.now reply.old inputs.now) r.old) result reply.old reply.new r.new }
+{
+    match check_lock(request, r, inputs) {
+        Err(why) => put_failure(why, request, reply),
+        Ok(()) => {
+            let nonce = inputs.nonce;
+            lock_record(r, request.bytes, nonce, inputs.session);
+            put_message(LOCK_INTERFACE_RESPONSE, request, nonce, reply)
+        }
+    }
 }

@@ -1,3 +1,3 @@
 -- Laws that belong to no one function.
-pub mod Limits
+pub mod Moved
 pub mod OnePass

@@ -2,4 +2,4 @@
 #![tactic(auto)]
 
 pub mod portion;
-mod record;
+pub mod record;

@@ -4,6 +4,7 @@ use mathlib.Core.Path.{◌≡◌, refl, sym, ap, ◌∙◌}
 use mathlib.Core.Bool.{Bool, true, false, ◌&&◌}
 use mathlib.Core.Logic.{◌⊎◌, inl, inr, ⊎_elim}
 use mathlib.Core.List.{List, [], ◌∷◌}
+use Rattle.std.specs.Int.{from_bool}
 use native.Mathlib.Omega.{arith}
 use native.Mathlib.Decide.{ℕ_discrete}
 use lib.Arith.{bin_ind}
@@ -83,13 +84,12 @@ no_fw_update_bit x = same_test (bit_and x 1) 1 (bit 0 x) 1 (λ e. omega (arith, 
     m : bit_and x 1 ≡ x % 2 + 2 * 0
     m = and_bits (true ∷ []) x 1 refl
 
-pub flag_set : (x : ℕ) (b : Bool) → b ≡ contains x 1 → b ≡ true → bit 0 x ≡ 1
-flag_set x b p e = eqb-true (bit 0 x) 1 (sym (no_fw_update_bit x) ∙ sym p ∙ e)
-
-pub flag_clear : (x : ℕ) (b : Bool) → b ≡ contains x 1 → b ≡ false → bit 0 x ≡ 0
-flag_clear x b p e =
-    let f : bit 0 x ≡ 1 → ⊥ = eqb-false (bit 0 x) 1 (sym (no_fw_update_bit x) ∙ sym p ∙ e) in
-    omega arith
+pub flag_bit : (x : ℕ) → from_bool (contains x 1) ≡ bit 0 x
+flag_bit x = rw (no_fw_update_bit x) (by (bit_set 0 x) refl)
+  where
+    by : (b : Bool) → bit_set 0 x ≡ b → from_bool b ≡ bit 0 x
+    by true e = sym (eqb-true (bit 0 x) 1 e)
+    by false e = let n : bit 0 x ≡ 1 → ⊥ = eqb-false (bit 0 x) 1 e in omega arith
 
 pub lock_msix_bit : (x : ℕ) → contains x 4 ≡ bit_set 2 x
 lock_msix_bit x = same_test (bit_and x 4) 4 (bit 2 x) 1 (λ e. omega (arith, m)) (λ e. omega (arith, m))

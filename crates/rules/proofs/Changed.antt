@@ -1,4 +1,5 @@
 -- What a change leaves of an accepted table: exactly the records that it is for move, and no other byte changes. Assumes nothing.
+use Rattle.std.specs.Prelude.{None, Some}
 use mathlib.Core.Path.{◌≡◌, refl, sym, ◌∙◌}
 use mathlib.Core.Bool.{Bool, true, false}
 use mathlib.Core.List.{List, [], ◌∷◌, map}
@@ -15,7 +16,6 @@ use Rattle.rules.specs.Record.{Rec, ERROR}
 use Rattle.rules.specs.Request.{cleared}
 use Rattle.rules.specs.Table.{records, record_at, record_bytes, identity, names, find, table_number}
 use Rattle.rules.specs.declared.Event.TheVariants.{Multicast}
-use Rattle.rules.specs.declared.Found.TheVariants.{At, Nothing}
 use Rattle.rules.specs.declared.Identity.{Identity}
 use Rattle.rules.specs.declared.Rule.{Rule}
 use Rattle.rules.proofs.Accepted.{tests, whole, differ}
@@ -73,14 +73,14 @@ module _ (p : Rec → Bool) (t : List ℕ) where
 -- ---- a register write
 
 -- the record that it names is the only one for that interface
-pub alone : (who : Identity) (t : List ℕ) (k j : ℕ) → table_number t ≡ 0 → find who (records t) ≡ At k → j < length (records t) → (j ≡ k → ⊥)
+pub alone : (who : Identity) (t : List ℕ) (k j : ℕ) → table_number t ≡ 0 → find who (records t) ≡ Some k → j < length (records t) → (j ≡ k → ⊥)
     → names who (record_at t j) ≡ false
 alone who t k j accepted found h n =
     let is = find_at who k (records t) found in
     same_like who (identity (record_at t k)) (identity (record_at t j)) is.here ∙ differ t accepted k j is.within h (λ e. n (sym e))
 
 -- so a write that is not device-wide moves that record alone, by its rule, and counts it alone
-module _ (rule : Rule) (who : Identity) (t : List ℕ) (k : ℕ) (accepted : table_number t ≡ 0) (found : find who (records t) ≡ At k) (narrow : device_wide rule ≡ false) where
+module _ (rule : Rule) (who : Identity) (t : List ℕ) (k : ℕ) (accepted : table_number t ≡ 0) (found : find who (records t) ≡ Some k) (narrow : device_wide rule ≡ false) where
   in_records : k < length (records t)
   in_records = (find_at who k (records t) found).within
 
@@ -113,18 +113,18 @@ module _ (id class : ℕ) (t : List ℕ) (accepted : table_number t ≡ 0) where
   who = identity_of id
 
   -- that names an interface of no record is number 7 and moves nothing, whatever its class: class 10 among them
-  pub unknown_refused : find who (records t) ≡ Nothing → register_written id class t ≡ refused 7 [] t
+  pub unknown_refused : find who (records t) ≡ None → register_written id class t ≡ refused 7 [] t
   unfolding register_written
   unknown_refused e = simp (eq-eqb (table_number t) 0 accepted, e)
 
-  module _ (k : ℕ) (found : find who (records t) ≡ At k) where
+  module _ (k : ℕ) (found : find who (records t) ≡ Some k) where
     -- that names a record's interface is served, by its class
     pub known_served : register_written id class t ≡ changed (write_hits (rule_of class) who) t
     unfolding register_written
     known_served = simp (eq-eqb (table_number t) 0 accepted, found)
 
 -- class 10 that names an interface of the table, in any state, is the multicast event: every interface in states 1 and 2 moves
-pub ten_is_multicast : (id k : ℕ) (t : List ℕ) → table_number t ≡ 0 → find (identity_of id) (records t) ≡ At k → register_written id 10 t ≡ happened Multicast t
+pub ten_is_multicast : (id k : ℕ) (t : List ℕ) → table_number t ≡ 0 → find (identity_of id) (records t) ≡ Some k → register_written id 10 t ≡ happened Multicast t
 unfolding register_written happened rule_of hits rule_hits write_hits
 ten_is_multicast id k t accepted found = simp (eq-eqb (table_number t) 0 accepted, found)
 

@@ -2,8 +2,8 @@
 use mathlib.Core.Path.{◌≡◌, refl, sym, ap, ◌∙◌}
 use mathlib.Core.Bool.{Bool, true, false, not, ◌&&◌}
 use mathlib.Core.Logic.{⊎_elim}
-use Prim.Native.Nat.{ℕ, zero, suc, ◌+◌, ◌<◌, ◌≤◌}
-use native.Mathlib.Nat.{le_of_suc-le-suc, not-suc-le-zero, eq-or-lt_of_le, le_antisymm}
+use Prim.Native.Nat.{ℕ, zero, suc, ◌+◌, ◌<◌}
+use native.Mathlib.Nat.{le_of_suc-le-suc, not-suc-le-zero, eq-or-lt_of_le}
 use native.Mathlib.Numerals.{add-one}
 use native.Mathlib.Omega.{arith}
 use borrow.Author.Tests.{not-true, not-false}
@@ -24,8 +24,9 @@ module _ (p : ℕ → Bool) where
   unfolding every
   every_none = refl
 
-  pub every_done : {ok : Bool} (n i : ℕ) → i ≤ n → n ≤ i → ok ≡ every i p → ok ≡ every n p
-  every_done n i l m h = rw (le_antisymm l m) at h
+  pub every_more : (i : ℕ) → every (i + 1) p ≡ every i p && p i
+  unfolding every
+  every_more i = rw add-one
 
   -- A loop that leaves with `false` where p fails, with the invariant `true ≡ every i p`; b is the flag that the test at i gave
   pub every_next : {b : Bool} (i : ℕ) → true ≡ every i p → b ≡ p i → not b ≡ false → true ≡ every (i + 1) p
@@ -48,10 +49,6 @@ module _ (p : ℕ → Bool) where
   pub every_keeps : {ok : Bool} (i : ℕ) → ok ≡ every i p → p i ≡ true → ok ≡ every (i + 1) p
   unfolding every
   every_keeps i h e = rw (add-one, e, h) (sym (and_true (every i p)))
-
-  pub every_drops : (i : ℕ) → p i ≡ false → false ≡ every (i + 1) p
-  unfolding every
-  every_drops i e = rw (add-one, e) (sym (and_false (every i p)))
 
 -- tests that agree below n
 pub every_same : (n : ℕ) (p q : ℕ → Bool) → ((k : ℕ) → k < n → p k ≡ q k) → every n p ≡ every n q

@@ -7,7 +7,6 @@ pub mod Bits
 pub mod Identities
 pub mod Offsets
 pub mod Records
-pub mod Scan
 pub mod Lookup
 pub mod Accepted
 pub mod Joined

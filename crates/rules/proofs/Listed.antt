@@ -3,11 +3,11 @@ use mathlib.Core.Path.{◌≡◌, refl, ap, ◌∙◌}
 use mathlib.Core.List.{List, [], ◌∷◌, ◌++◌, append_assoc}
 use mathlib.Core.Logic.{⊎_elim}
 use Prim.Native.Nat.{ℕ, zero, suc, ◌+◌, ◌-◌, ◌≤◌, ◌<◌}
-use native.Mathlib.Nat.{le_antisymm, zero-add, suc-sub-suc, le_of_suc-le-suc, not-suc-le-zero, eq-or-lt_of_le, sub-zero}
+use native.Mathlib.Nat.{zero-add, suc-sub-suc, le_of_suc-le-suc, not-suc-le-zero, eq-or-lt_of_le, sub-zero}
 use native.Mathlib.Numerals.{add-one}
 use native.Mathlib.Omega.{arith}
 use lib.ListN.{length, take, drop, get_or, set, replicate, length-append, length-replicate, get_or-append}
-use lib.Seq.{set_at, get_or_at, get_or-append-add}
+use lib.Seq.{set_at, get_or_at, get_or-append-add, length-take-le}
 use Rattle.rules.specs.Bytes.{Bytes, blank, part, over}
 use Rattle.rules.specs.Range.{most_ranges, zero_range, listed, eight_ranges}
 use Rattle.rules.specs.Record.{most_information}
@@ -59,6 +59,10 @@ pub length_eight : (n : ℕ) (p : ℕ → Range) → n ≤ most_ranges → lengt
 unfolding eight_ranges
 length_eight n p h = rw (length-append, length_listed, length-replicate) (omega arith)
 
+-- and the first n of them are n
+pub front_eight : (n : ℕ) (p : ℕ → Range) → n ≤ most_ranges → length (take n (eight_ranges n p)) ≡ n
+front_eight n p h = length-take-le n (eight_ranges n p) (rw (length_eight n p h) h)
+
 -- ---- a loop that fills eight ranges: k of them are filled
 
 module _ (f : ℕ → Range) where
@@ -72,9 +76,6 @@ module _ (f : ℕ → Range) where
       let left : most_ranges - k ≡ suc (most_ranges - (k + 1)) = omega arith in
       let rest : List Range = replicate (most_ranges - (k + 1)) zero_range in
       rw (p, left, set_at (listed k f) zero_range rest x k (length_listed k f), e, add-one, append_assoc)
-
-  pub eight_done : (n k : ℕ) (ranges : List Range) → k ≤ n → n ≤ k → ranges ≡ eight_ranges k f → ranges ≡ eight_ranges n f
-  eight_done n k ranges l m p = rw (le_antisymm l m) at p
 
 -- ---- information copied over zeros
 

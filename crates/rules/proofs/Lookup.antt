@@ -1,5 +1,5 @@
 -- What a lookup finds, exactly. Assumes nothing.
-use Rattle.std.specs.Prelude.{if◌then◌else◌}
+use Rattle.std.specs.Prelude.{if◌then◌else◌, None, Some}
 use mathlib.Core.Path.{◌≡◌, refl, sym, ap, ◌∙◌}
 use mathlib.Core.Bool.{Bool, true, false, not, ◌&&◌}
 use mathlib.Core.List.{List, [], ◌∷◌}
@@ -11,7 +11,6 @@ use lib.ListN.{length, get_or}
 use Rattle.rules.specs.Record.{Rec}
 use Rattle.rules.specs.Table.{all, names, names_not, find_from, find, nothing}
 use Rattle.rules.specs.declared.Identity.{Identity}
-use Rattle.rules.specs.declared.Found.TheVariants.{At, Nothing}
 use Rattle.rules.proofs.Bools.{and_left, and_right}
 
 -- a test of every record, at one of them
@@ -35,13 +34,13 @@ module _ (who : Identity) where
   none_before_next r rs k p f (suc j) h = f j (le_of_suc-le-suc h)
 
   -- found at place k, counted from n: k is n and some more, and that is where the record stands
-  found_from : (n k : ℕ) (rs : List Rec) → find_from n who rs ≡ At k → (j : ℕ) × ((k ≡ n + j) × Is who rs j)
+  found_from : (n k : ℕ) (rs : List Rec) → find_from n who rs ≡ Some k → (j : ℕ) × ((k ≡ n + j) × Is who rs j)
   unfolding find_from
   found_from n k [] e = let z : ◌≡◌ {A = ℕ} 0 1 = cc in absurd (omega arith)
   found_from n k (r ∷ rs) e = by (names who r) refl e (found_from (suc n) k rs)
     where
-      by : (t : Bool) → names who r ≡ t → (if t then At n else find_from (suc n) who rs) ≡ At k
-          → (find_from (suc n) who rs ≡ At k → (j : ℕ) × ((k ≡ suc n + j) × Is who rs j))
+      by : (t : Bool) → names who r ≡ t → (if t then Some n else find_from (suc n) who rs) ≡ Some k
+          → (find_from (suc n) who rs ≡ Some k → (j : ℕ) × ((k ≡ suc n + j) × Is who rs j))
           → (j : ℕ) × ((k ≡ n + j) × Is who (r ∷ rs) j)
       by true p q ih =
           let z : n ≡ k = cc in
@@ -51,7 +50,7 @@ module _ (who : Identity) where
           (suc j, (omega arith, record { within = omega arith; here = is.here; none_before = none_before_next r rs j p is.none_before }))
 
   -- a lookup that finds a place is right
-  pub find_at : (k : ℕ) (rs : List Rec) → find who rs ≡ At k → Is who rs k
+  pub find_at : (k : ℕ) (rs : List Rec) → find who rs ≡ Some k → Is who rs k
   find_at k rs e =
       let (j, (z, is)) = found_from 0 k rs e in
       let same_place : j ≡ k = omega arith in
@@ -64,10 +63,10 @@ nothing_all k who [] = refl
 nothing_all k who (r ∷ rs) = by (names who r) (nothing_all (suc k) who rs)
   where
     by : (t : Bool) → nothing (find_from (suc k) who rs) ≡ all (names_not who) rs
-        → nothing (if t then At k else find_from (suc k) who rs) ≡ (not t && all (names_not who) rs)
+        → nothing (if t then Some k else find_from (suc k) who rs) ≡ (not t && all (names_not who) rs)
     by true ih = refl
     by false ih = ih
 
 -- so one that finds nothing is right
-pub find_nothing : (who : Identity) (rs : List Rec) → find who rs ≡ Nothing → (k : ℕ) → k < length rs → names who (get_or rs k []) ≡ false
+pub find_nothing : (who : Identity) (rs : List Rec) → find who rs ≡ None → (k : ℕ) → k < length rs → names who (get_or rs k []) ≡ false
 find_nothing who rs e k h = not-true _ (all_at (names_not who) rs k (sym (nothing_all 0 who rs) ∙ ap nothing e) h)

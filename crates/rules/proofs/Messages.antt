@@ -1,5 +1,5 @@
 -- Replies written piece by piece. Assumes nothing.
-use mathlib.Core.Path.{◌≡◌, refl, sym, ◌∙◌}
+use mathlib.Core.Path.{◌≡◌, refl, ◌∙◌}
 use mathlib.Core.List.{List, [], ◌∷◌, ◌++◌}
 use Prim.Native.Nat.{ℕ, ◌+◌, ◌≤◌}
 use native.Mathlib.Omega.{arith}
@@ -22,12 +22,15 @@ module _ (kind : ℕ) (q : List ℕ) (long : 16 ≤ length q) where
   unfolding message
   length_message payload = rw (length-append, length_header)
 
-  pub message_length : (payload : List ℕ) → 16 + length payload ≡ length (message kind q payload)
-  message_length payload = sym (length_message payload)
-
-  pub message_written : (payload s a b : List ℕ) → a ≡ over 0 (header kind q) s → b ≡ over 16 payload a → b ≡ over 0 (message kind q payload) s
+-- a payload written behind a header that is written
+module _ (kind : ℕ) (q payload : List ℕ) (head : length (header kind q) ≡ 16) where
+  pub message_length : 16 + length payload ≡ length (message kind q payload)
   unfolding message
-  message_written payload s a b p r = next_piece 0 16 _ _ s a b p r (omega arith) (simp length_header)
+  message_length = simp (length-append, head)
+
+  pub message_written : (s a b : List ℕ) → a ≡ over 0 (header kind q) s → b ≡ over 16 payload a → b ≡ over 0 (message kind q payload) s
+  unfolding message
+  message_written s a b p r = next_piece 0 16 _ _ s a b p r (omega arith) (simp head)
 
 pub header_written : (kind : ℕ) (q s a b : List ℕ) → a ≡ over 0 (0x10 ∷ kind ∷ 0 ∷ 0 ∷ []) s → b ≡ over 4 (take 12 (drop 4 q)) a → b ≡ over 0 (header kind q) s
 unfolding header part
@@ -39,15 +42,19 @@ eight_bytes code datum a b p r =
 
 -- ---- a record written piece by piece
 
-pub cleared_written : (s : ℕ) (r a b c : List ℕ) → a ≡ over 4 (s ∷ 0 ∷ 0 ∷ 0 ∷ 0 ∷ 0 ∷ []) r → b ≡ over 24 (take 8 (blank 32)) a → c ≡ over 40 (blank 32) b → c ≡ cleared s r
-unfolding cleared
+pub cleared_written : (s : ℕ) (r a b c : List ℕ) → a ≡ over 4 (s ∷ 0 ∷ 0 ∷ 0 ∷ 0 ∷ 0 ∷ []) r → b ≡ over 24 (bytes_of 8 0) a → c ≡ over 40 (blank 32) b → c ≡ cleared s r
+unfolding bytes_of cleared
 cleared_written s r a b c x y z = rw (z, y, x)
 
 pub running_written : (r a b : List ℕ) → a ≡ over 4 (2 ∷ 0 ∷ []) r → b ≡ over 40 (blank 32) a → b ≡ running r
 unfolding running
 running_written r a b x y = rw (y, x)
 
-pub locked_written : (q n r h a b c : List ℕ) (s : Session) (f o : ℕ) → f ≡ num q 16 2 → h ≡ CONFIG_LOCKED ∷ 1 ∷ bytes_of 2 (stored f) ++ (byte q 18 ∷ s.0 ∷ []) → a ≡ over 4 h r
-    → o ≡ num q 20 8 → b ≡ over 24 (bytes_of 8 o) a → c ≡ over 40 n b → c ≡ locked q n s r
-unfolding locked
-locked_written q n r h a b c s f o f-is h-is a-is o_is b-is c-is = rw (c-is, b-is, a-is, h-is, f-is, o_is)
+-- state 1 and nonce held, flags, stream and session, offset, nonce
+pub locked_written : (q n r a b c d e : List ℕ) (s : Session) (f x o : ℕ) → 10 ≤ length r → f ≡ num q 16 2 → x ≡ stored f → o ≡ num q 20 8 → a ≡ over 4 (CONFIG_LOCKED ∷ 1 ∷ []) r
+    → b ≡ over 6 (bytes_of 2 x) a → c ≡ over 8 (byte q 18 ∷ s.0 ∷ []) b → d ≡ over 24 (bytes_of 8 o) c → e ≡ over 40 n d → e ≡ locked q n s r
+unfolding bytes_of locked
+locked_written q n r a b c d e s f x o long f-is x-is o_is a-is b-is c-is d-is e-is =
+    let two = next_piece 4 6 _ _ r a b a-is b-is (omega arith) refl in
+    let head = next_piece 4 8 _ _ r b c two c-is (omega arith) refl in
+    rw (e-is, d-is, head, x-is, f-is, o_is)

@@ -18,7 +18,7 @@ use Rattle.rules.proofs.Configured.{Configured, identity_same}
 use Rattle.rules.proofs.KeepsRules.{cleared_keeps}
 
 -- a record in states 1 and 2 is not in ERROR
-live_state : (r : Rec) → live r ≡ true → eqb (state r) 3 ≡ false
+pub live_state : (r : Rec) → live r ≡ true → eqb (state r) 3 ≡ false
 unfolding live
 live_state r = by (eqb (state r) 1) refl (eqb (state r) 2) refl
   where

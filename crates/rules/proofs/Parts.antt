@@ -1,12 +1,11 @@
 -- Laws of `part` and `over`. Assumes nothing.
 use mathlib.Core.Path.{◌≡◌, refl, sym, ap, ◌∙◌}
 use mathlib.Core.List.{List, [], ◌∷◌, ◌++◌, append_assoc, append-nil}
-use Prim.Native.Nat.{ℕ, zero, suc, ◌+◌, ◌-◌, ◌≤◌, ◌<◌, min}
+use Prim.Native.Nat.{ℕ, zero, suc, ◌+◌, ◌-◌, ◌≤◌, min}
 use native.Mathlib.Nat.{add-zero, zero-add, add-sub_cancel_left}
-use native.Mathlib.Numerals.{add-one}
 use native.Mathlib.Omega.{arith}
-use lib.ListN.{length, take, drop, set, length-append, length-take, length-drop, take-append-drop}
-use lib.Seq.{take_at, drop_at, drop-drop, set_split, length-take-le, take-length, drop-length, take-add, take-nil, append_snoc}
+use lib.ListN.{length, take, drop, length-append, length-take, length-drop, take-append-drop}
+use lib.Seq.{take_at, drop_at, drop-drop, length-take-le, take-length, drop-length, take-add, take-nil}
 use Rattle.rules.specs.Bytes.{part, over}
 
 -- what a callee is lent of `&s[at..end]`, where end is at + n
@@ -45,11 +44,6 @@ take_least (x ∷ s) (suc n) (suc k) e = ap (λ (t : List ℕ). x ∷ t) (take_l
 pub over_nothing : (at : ℕ) (s : List ℕ) → over at [] s ≡ s
 unfolding over
 over_nothing at s = rw (append-nil, add-zero) (take-append-drop at s)
-
--- one byte
-pub over_byte : (at b : ℕ) (s : List ℕ) → at < length s → set s at b ≡ over at (b ∷ []) s
-unfolding over
-over_byte at b s h = set_split s at b h ∙ rw (← add-one at) (sym (append_snoc (take at s) b (drop (at + 1) s)))
 
 -- `b` written right after `a` is `a ++ b` written
 pub over_next : (at n : ℕ) (a b s : List ℕ) → at ≤ length s → length a ≡ n → over (at + n) b (over at a s) ≡ over at (a ++ b) s

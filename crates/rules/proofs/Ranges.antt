@@ -7,6 +7,7 @@ use native.Mathlib.Omega.{arith}
 use borrow.Author.Tests.{leb-true}
 use lib.Dec.{leb}
 use lib.IntN.{ℤ}
+use lib.ListN.{length}
 use Rattle.rules.specs.Bytes.{zeros}
 use Rattle.rules.specs.Lock.{shifted, stays, all_stay}
 use Rattle.rules.specs.Range.{range_bytes, pages_end, eight_ranges, range_in, pages_ok, attributes_ok, all_pages, all_attributes, never_fall, ids_of}
@@ -47,10 +48,10 @@ module _ (n : ℕ) (p q : ℕ → Range) (same : (k : ℕ) → k < n → p k ≡
   pub stay_agree : (z : ℤ) → all_stay z n p ≡ all_stay z n q
   stay_agree z = every_same n _ _ (λ k l. ap (λ (x : Range). stays (shifted z x)) (same k l))
 
--- ---- a record's ranges
+pub pages_at : (ranges : List Range) (k : ℕ) → all_pages (length ranges) (range_in ranges) ≡ true → k < length ranges → pages_ok (range_in ranges k) ≡ true
+pages_at ranges k e h = every_at _ (length ranges) k e h
 
-pub pages_at : (ranges : List Range) (n k : ℕ) → all_pages n (range_in ranges) ≡ true → k < n → pages_ok (range_in ranges k) ≡ true
-pages_at ranges n k e h = every_at _ n k e h
+-- ---- a record's ranges
 
 -- each of a record's ranges keeps its rules
 module _ (r : Rec) (ok : ranges_ok r ≡ true) where
@@ -78,7 +79,3 @@ module _ (r : Rec) (ok : ranges_ok r ≡ true) where
 
   pub ids_ok : falls ≡ true
   ids_ok = and_right (pages && attributes) falls tests
-
-  -- and so they do once read
-  pub pages_read : (ranges : List Range) → ranges ≡ eight_ranges n (range_of r) → all_pages n (range_in ranges) ≡ true
-  pages_read ranges e = pages_agree n (range_in ranges) (range_of r) (range_read ranges n (range_of r) e) ∙ pages_ok_lem

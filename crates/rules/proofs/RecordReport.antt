@@ -1,5 +1,6 @@
 -- The report of every record that keeps its rules in state 1 or 2 is accepted by the reader. Assumes nothing.
-use Rattle.std.specs.Prelude.{if◌then◌else◌}
+use Rattle.std.specs.Prelude.{if◌then◌else◌, None, Option, Some}
+use Rattle.std.specs.Option.{unwrap_or}
 use mathlib.Core.Path.{◌≡◌, refl, sym, ap, ◌∙◌}
 use mathlib.Core.Bool.{Bool, true, false, ◌&&◌}
 use mathlib.Core.List.{List}
@@ -9,8 +10,8 @@ use native.Mathlib.Omega.{arith}
 use lib.Dec.{eqb, leb, ltb}
 use lib.IntN.{ℤ, pos, negsuc, ◌+ℤ◌}
 use lib.Signed.{quot_z}
-use lib.ListN.{length, get_or}
-use lib.Seq.{take_at}
+use lib.ListN.{length, get_or, take}
+use lib.Seq.{take_at, get_or-take}
 use borrow.Author.Tests.{leb-true, le-leb, ltb-true, ltb-false, le-ltb, eqb-true, eq-eqb}
 use Rattle.rules.specs.Bytes.{Bytes, bits, bit, bit_clear, blank, part}
 use Rattle.rules.specs.Lock.{contains, signed, page_bytes, whole_pages, fitted, shifted, stays, all_stay}
@@ -20,8 +21,6 @@ use Rattle.rules.specs.Report.{most_report, information_from, field_range, repor
 use Rattle.rules.specs.Table.{record_bytes}
 use Rattle.rules.specs.declared.Range.{Range}
 use Rattle.rules.specs.declared.ReportFields.{ReportFields}
-use Rattle.rules.specs.declared.Shifted.{Shifted}
-use Rattle.rules.specs.declared.Shifted.TheVariants.{Page, Out}
 use Rattle.rules.proofs.Bits.{lock_msix_bit}
 use Rattle.rules.proofs.Bools.{clash, and_left, and_right}
 use Rattle.rules.proofs.Every.{every_at, every_true}
@@ -35,23 +34,27 @@ use Rattle.rules.proofs.Sizes.{content_same}
 
 -- ---- a shifted page
 
+pub page_is : (x : Option ℕ) → unwrap_or x 0 ≡ page_of x
+page_is (Some first) = refl
+page_is None = refl
+
 -- a page is at most where the pages end
 page_most : (z : ℤ) (pages : ℕ) → page_of (fitted z pages) ≤ pages_end
 page_most (pos page) pages = go (leb (page + pages) pages_end) refl
   where
-    go : (b : Bool) → leb (page + pages) pages_end ≡ b → page_of (if b then Page page else Out) ≤ pages_end
+    go : (b : Bool) → leb (page + pages) pages_end ≡ b → page_of (if b then Some page else None) ≤ pages_end
     go true e = omega (arith, leb-true (page + pages) pages_end e)
     go false e = omega arith
 page_most (negsuc below) pages = omega arith
 
 -- a page that stays is the sum z, and the range ends where the pages end or before
-abbrev Stayed : ℤ → ℕ → Shifted → Type 0
+abbrev Stayed : ℤ → ℕ → Option ℕ → Type 0
 Stayed z pages x = (pos (page_of x) ≡ z) × (page_of x + pages ≤ pages_end)
 
 page_stays : (z : ℤ) (pages : ℕ) → stays (fitted z pages) ≡ true → Stayed z pages (fitted z pages)
 page_stays (pos page) pages = go (leb (page + pages) pages_end) refl
   where
-    go : (b : Bool) → leb (page + pages) pages_end ≡ b → stays (if b then Page page else Out) ≡ true → Stayed (pos page) pages (if b then Page page else Out)
+    go : (b : Bool) → leb (page + pages) pages_end ≡ b → stays (if b then Some page else None) ≡ true → Stayed (pos page) pages (if b then Some page else None)
     go true e s = (refl, leb-true (page + pages) pages_end e)
     go false e s = clash (sym s)
 page_stays (negsuc below) pages = λ s. clash (sym s)
@@ -197,19 +200,21 @@ module _ (r : Rec) (flag x info control n l : ℕ) (msix : Bool) (raw : List Ran
   msix_told : msix ≡ lock_msix r
   msix_told = rw (msix-is, flag_is) (lock_msix_bit (flags r))
 
-  ranges_told : (shown : List Range) → x ≡ offset r → raw ≡ eight_ranges n (range_of r) → shown ≡ eight_ranges n (λ k. shown_range (signed x) msix (range_in raw k))
+  ranges_told : (shown : List Range) → x ≡ offset r → raw ≡ eight_ranges n (range_of r) → n ≡ length (take n raw)
+      → shown ≡ eight_ranges (length (take n raw)) (λ k. shown_range (signed x) msix (range_in (take n raw) k))
       → shown ≡ eight_ranges (range_count r) (reported_range r)
   unfolding eight_ranges
-  ranges_told shown x-is raw_is shown-is =
-      let same : (k : ℕ) → k < n → shown_range (signed x) msix (range_in raw k) ≡ reported_range r k =
-      λ k h. rw (range_read raw n (range_of r) raw_is k h, x-is, msix_told) in
-      rw (← n-is, shown-is, listed_same n _ _ same)
+  ranges_told shown x-is raw_is n-long shown-is =
+      let same : (k : ℕ) → k < n → shown_range (signed x) msix (range_in (take n raw) k) ≡ reported_range r k =
+      λ k h. rw (get_or-take n raw k zero_range h, range_read raw n (range_of r) raw_is k h, x-is, msix_told) in
+      rw (← n-is, shown-is, ← n-long, listed_same n _ _ same)
 
   pub fields_told : (i m lnr tph : ℕ) (shown : List Range) (information : List ℕ)
       → l ≡ information_length r
       → x ≡ offset r
       → raw ≡ eight_ranges n (range_of r)
-      → shown ≡ eight_ranges n (λ k. shown_range (signed x) msix (range_in raw k))
+      → n ≡ length (take n raw)
+      → shown ≡ eight_ranges (length (take n raw)) (λ k. shown_range (signed x) msix (range_in (take n raw) k))
       → information ≡ information_from r 204 l
       → info ≡ interface_info r
       → i ≡ info / 2 * 2 + bit 0 flag
@@ -219,5 +224,5 @@ module _ (r : Rec) (flag x info control n l : ℕ) (msix : Bool) (raw : List Ran
       → tph ≡ tph_control r
       → ◌≡◌ {A = ReportFields} (record { info = i; msix = m; lnr = lnr; tph = tph; n = n; ranges = shown; l = l; information = information }) (report_of r)
   unfolding report_of
-  fields_told i m lnr tph shown information l-is x-is raw_is shown-is information-is info-is i-is control-is m-is lnr-is tph-is =
-      rw (ranges_told shown x-is raw_is shown-is, information-is, l-is, i-is, info-is, flag_is, m-is, control-is, msix_told, lnr-is, tph-is, n-is)
+  fields_told i m lnr tph shown information l-is x-is raw_is n-long shown-is information-is info-is i-is control-is m-is lnr-is tph-is =
+      rw (ranges_told shown x-is raw_is n-long shown-is, information-is, l-is, i-is, info-is, flag_is, m-is, control-is, msix_told, lnr-is, tph-is, n-is)

@@ -1,27 +1,24 @@
 -- A table's bytes and its records. The laws of `cut` hold at any width. Assumes nothing.
 use mathlib.Core.Path.{◌≡◌, refl, sym, ap}
-use mathlib.Core.List.{List, [], ◌∷◌}
-use Prim.Native.Nat.{ℕ, zero, suc, ◌+◌, ◌*◌, ◌/◌, ◌≤◌, ◌<◌}
-use native.Mathlib.Nat.{le_of_suc-le-suc, not-suc-le-zero, suc-mul, zero-mul, add_comm, add-zero}
-use native.Mathlib.Numerals.{add-one}
+use mathlib.Core.List.{List, []}
+use Prim.Native.Nat.{ℕ, zero, suc, ◌*◌, ◌/◌, ◌<◌}
+use native.Mathlib.Nat.{le_of_suc-le-suc, not-suc-le-zero, suc-mul, zero-mul, add_comm}
 use native.Mathlib.Omega.{arith}
-use lib.ListN.{length, drop, get_or, drop_of_length-le}
-use lib.Seq.{drop-drop, drop-cons}
-use Rattle.rules.specs.Bytes.{part, num}
-use Rattle.rules.specs.Record.{function_id}
+use lib.ListN.{length, drop, get_or}
+use lib.Seq.{drop-drop}
+use Rattle.rules.specs.Bytes.{part}
 use Rattle.rules.specs.Table.{cut, records, record_at, record_bytes}
 use Rattle.rules.proofs.Parts.{length_part}
-use Rattle.rules.proofs.Numbers.{num_part}
 
 -- ---- at any width
 
 module _ (w : ℕ) where
-  length_cut : (n : ℕ) (t : List ℕ) → length (cut w n t) ≡ n
+  pub length_cut : (n : ℕ) (t : List ℕ) → length (cut w n t) ≡ n
   unfolding cut
   length_cut zero t = refl
   length_cut (suc n) t = ap suc (length_cut n (drop w t))
 
-  cut_at : (n k : ℕ) (t : List ℕ) → k < n → get_or (cut w n t) k [] ≡ part t (k * w) w
+  pub cut_at : (n k : ℕ) (t : List ℕ) → k < n → get_or (cut w n t) k [] ≡ part t (k * w) w
   unfolding cut part
   cut_at zero k t h = absurd (not-suc-le-zero h)
   cut_at (suc n) zero t h = rw zero-mul
@@ -39,17 +36,3 @@ record_part t k h = sym (cut_at record_bytes (length t / record_bytes) k t h)
 
 pub length_record : (t : List ℕ) (k : ℕ) → k < length t / record_bytes → length (record_at t k) ≡ record_bytes
 length_record t k h = rw (← record_part t k h) (length_part t (k * record_bytes) record_bytes (omega arith))
-
--- a number of a record, where it stands in the table
-pub record_num : (t : List ℕ) (k at n : ℕ) → k < length t / record_bytes → at + n ≤ record_bytes → num (record_at t k) at n ≡ num t (k * record_bytes + at) n
-record_num t k at n h l = rw (← record_part t k h) (num_part t (k * record_bytes) record_bytes at n l)
-
-pub record_id : (t : List ℕ) (k : ℕ) → k < length t / record_bytes → function_id (record_at t k) ≡ num t (k * record_bytes) 4
-record_id t k h = rw add-zero at (record_num t k 0 4 h (omega arith))
-
--- a scan: what is left from record k on starts with record k
-pub records_from : (t : List ℕ) (k : ℕ) → k < length t / record_bytes → drop k (records t) ≡ record_at t k ∷ drop (k + 1) (records t)
-records_from t k h = let n = length_records t in rw (drop-cons (records t) k [] (omega arith), add-one)
-
-pub records_end : (t : List ℕ) (k : ℕ) → length t / record_bytes ≤ k → drop k (records t) ≡ []
-records_end t k h = let n = length_records t in drop_of_length-le (records t) {i = k} (omega arith)

@@ -1,5 +1,5 @@
 -- What a request leaves of an accepted table. Assumes nothing.
-use Rattle.std.specs.Prelude.{if◌then◌else◌}
+use Rattle.std.specs.Prelude.{if◌then◌else◌, Err, Ok, Result, Some}
 use mathlib.Core.Path.{◌≡◌, refl, sym, ap, ◌∙◌}
 use mathlib.Core.Bool.{Bool, true, false, not, ◌&&◌}
 use mathlib.Core.List.{List, []}
@@ -12,12 +12,9 @@ use lib.Seq.{set-get_or}
 use Rattle.rules.specs.Bytes.{byte, over}
 use Rattle.rules.specs.Identity.{identity_at}
 use Rattle.rules.specs.Record.{Rec}
-use Rattle.rules.specs.Request.{Lent, Effect, kind_of, header, message, error_message, effect, verdict}
+use Rattle.rules.specs.Request.{Lent, Effect, kind_of, header, message, error_message, error_code, error_datum, effect, verdict}
 use Rattle.rules.specs.Table.{records, record_at, record_bytes, identity, find, table_number}
 use Rattle.rules.specs.Call.{join, Outcome, refused, served, carried_out, least_reply, least_request, answered}
-use Rattle.rules.specs.declared.Found.TheVariants.{At}
-use Rattle.rules.specs.declared.Verdict.{Verdict}
-use Rattle.rules.specs.declared.Verdict.TheVariants.{Error, Serve}
 use Rattle.rules.proofs.Accepted.{whole, keeps_rules}
 use Rattle.rules.proofs.Bools.{and_right}
 use Rattle.rules.proofs.Checks.{serves}
@@ -28,21 +25,22 @@ use Rattle.rules.proofs.KeepsRules.{effect_keeps}
 use Rattle.rules.proofs.Lookup.{find_at}
 use Rattle.rules.proofs.Records.{length_records, length_record}
 use Rattle.rules.proofs.StaysAccepted.{set_accepted, other_stays, named_is}
+use Rattle.rules.specs.declared.RequestError.{RequestError}
 
 -- ---- what a request gets is one of three
 
 -- a request that is carried out on record k
 pub record OnRecord (l : Lent) (t : List ℕ) (k : ℕ) : Type 0 where
   pub accepted : table_number t ≡ 0
-  pub found : find (identity_at l.request 4) (records t) ≡ At k
+  pub found : find (identity_at l.request 4) (records t) ≡ Some k
   pub nonce_long : length l.nonce ≡ 32
-  pub told : verdict l.request (records t) ≡ Serve k
+  pub told : verdict l.request (records t) ≡ Ok k
 
 -- refused with a number, an error, or carried out
 pub data Answers (l : Lent) (t : List ℕ) : Outcome → Type 0 where
   refuses : (n : ℕ) → (n ≡ 0 → ⊥) → Answers l t (refused n l.reply t)
   errs : (code datum : ℕ) → Answers l t (served (error_message code datum l.request) l t)
-  carries : (k : ℕ) → OnRecord l t k → Answers l t (carried_out (Serve k) l t)
+  carries : (k : ℕ) → OnRecord l t k → Answers l t (carried_out (Ok k) l t)
 
 pub answered_is : (l : Lent) (t : List ℕ) → Answers l t (answered l t)
 unfolding answered
@@ -51,14 +49,14 @@ answered_is l t =
     (verdict l.request (records t)) refl
   where
     go : (a : Bool) → eqb (table_number t) 0 ≡ a → (b c d : Bool) → eqb (length l.streams) 32 && eqb (length l.nonce) 32 ≡ d
-        → (v : Verdict) → verdict l.request (records t) ≡ v
+        → (v : Result ℕ RequestError) → verdict l.request (records t) ≡ v
         → Answers l t (if not a then refused (table_number t) l.reply t else if b then refused 4 l.reply t else if c then refused 5 l.reply t else if not d then refused 6 l.reply t else carried_out v l t)
     go false p b c d q v e = refuses (table_number t) (eqb-false (table_number t) 0 p)
     go true p true c d q v e = refuses 4 (λ z. omega arith)
     go true p false true d q v e = refuses 5 (λ z. omega arith)
     go true p false false false q v e = refuses 6 (λ z. omega arith)
-    go true p false false true q (Error code datum) e = errs code datum
-    go true p false false true q (Serve k) e =
+    go true p false false true q (Err why) e = errs (error_code why) (error_datum why)
+    go true p false false true q (Ok k) e =
         carries k (record {
           accepted = eqb-true (table_number t) 0 p;
           found = (serves k (verdict l.request (records t)) l.request t refl e).found;
@@ -147,13 +145,13 @@ module _ (l : Lent) (t : List ℕ) where
       by o (carries k on) = accepted_after l t k on
 
   -- only the named record can change
-  pub only_named : (j : ℕ) → (find (identity_at l.request 4) (records t) ≡ At j → ⊥) → record_at (answered l t).table j ≡ record_at t j
+  pub only_named : (j : ℕ) → (find (identity_at l.request 4) (records t) ≡ Some j → ⊥) → record_at (answered l t).table j ≡ record_at t j
   only_named j n = by (answered l t) (answered_is l t)
     where
       by : (o : Outcome) → Answers l t o → record_at o.table j ≡ record_at t j
       by o (refuses n z) = refl
       by o (errs code datum) = refl
-      by o (carries k on) = other_after l t k on j (λ e. n (on.found ∙ ap At (sym e)))
+      by o (carries k on) = other_after l t k on j (λ e. n (on.found ∙ ap Some (sym e)))
 
   -- no record comes or goes
   pub length_stays : length (records (answered l t).table) ≡ length (records t)

@@ -1,59 +1,23 @@
 -- A report's size, test by test. Assumes nothing.
 use Rattle.std.specs.Prelude.{if◌then◌else◌}
-use mathlib.Core.Path.{◌≡◌, refl, sym, ap, ◌∙◌}
+use mathlib.Core.Path.{◌≡◌, refl, sym}
 use mathlib.Core.Bool.{Bool, true, false, not}
 use mathlib.Core.List.{List}
 use Prim.Native.Nat.{ℕ, ◌+◌, ◌*◌, ◌≤◌, ◌<◌}
 use native.Mathlib.Omega.{arith}
-use borrow.Author.Tests.{lt-ltb, le-ltb, ltb-false, eqb-true, not-false}
+use borrow.Author.Tests.{ltb-false, eqb-true, ne_eqb}
 use lib.Dec.{eqb, ltb}
-use lib.ListN.{length}
+use lib.ListN.{length, take}
+use lib.Seq.{get_or-take}
 use Rattle.rules.specs.Bytes.{num, zeros}
-use Rattle.rules.specs.Range.{most_ranges, range_bytes, ranges_from, eight_ranges, range_in}
+use Rattle.rules.specs.Range.{most_ranges, range_bytes, eight_ranges, range_in, zero_range}
 use Rattle.rules.specs.Record.{most_information}
-use Rattle.rules.specs.Report.{least_report, total_of, read_count, read_length, read_range, size_number, read_number, content_number, report_number, is_accepted, read_fields, zero_fields, handed_back}
+use Rattle.rules.specs.Report.{least_report, total_of, read_count, read_length, read_range, size_number, read_number, content_number, report_refusal_number, read_fields, zero_fields, handed_back}
 use Rattle.rules.specs.declared.Range.{Range}
-use Rattle.rules.specs.declared.ReportFields.{ReportFields}
-use Rattle.rules.specs.declared.ReportVerdict.{ReportVerdict}
-use Rattle.rules.specs.declared.ReportVerdict.TheVariants.{Accepted, Short, TooMany, Longer, Reserved, BadPages, FallingIds, SmallOutput}
+use Rattle.rules.specs.declared.ReportRefusal.{ReportRefusal}
+use Rattle.rules.specs.declared.ReportRefusal.TheVariants.{Short, TooMany, Longer, Reserved, BadPages, FallingIds, SmallOutput}
 use Rattle.rules.proofs.Ranges.{range_read, pages_agree, attributes_agree, ids_agree}
 use Rattle.rules.proofs.Bools.{clash}
-
--- ---- the ways out of the reader's test of sizes
-
-module _ (s : List ℕ) where
-  pub too_short : length s < least_report → 20 ≡ size_number s
-  unfolding size_number
-  too_short h = rw (lt-ltb _ _ h)
-
-  module _ (n : ℕ) (a : least_report ≤ length s) (n-is : n ≡ read_count s) where
-    pub too_many : most_ranges < n → 21 ≡ size_number s
-    unfolding size_number
-    too_many h = rw (le-ltb _ _ a, ← n-is, lt-ltb _ _ h)
-
-    module _ (b : n ≤ most_ranges) where
-      pub no_room_for_ranges : length s < least_report + n * range_bytes → 20 ≡ size_number s
-      unfolding size_number
-      no_room_for_ranges h = rw (le-ltb _ _ a, ← n-is, le-ltb _ _ b, lt-ltb _ _ h)
-
-      module _ (l : ℕ) (c : least_report + n * range_bytes ≤ length s) (l-is : l ≡ num s (16 + n * range_bytes) 4) where
-        pub too_much : most_information < l → 21 ≡ size_number s
-        unfolding size_number
-        too_much h = rw (le-ltb _ _ a, ← n-is, le-ltb _ _ b, le-ltb _ _ c, ← l-is, lt-ltb _ _ h)
-
-        module _ (d : l ≤ most_information) where
-          pub no_room : length s < total_of n l → 20 ≡ size_number s
-          unfolding size_number
-          no_room h = rw (le-ltb _ _ a, ← n-is, le-ltb _ _ b, le-ltb _ _ c, ← l-is, le-ltb _ _ d, lt-ltb _ _ h)
-
-          module _ (e : total_of n l ≤ length s) where
-            pub longer : total_of n l < length s → 22 ≡ size_number s
-            unfolding size_number
-            longer h = rw (le-ltb _ _ a, ← n-is, le-ltb _ _ b, le-ltb _ _ c, ← l-is, le-ltb _ _ d, le-ltb _ _ e, lt-ltb _ _ h)
-
-            pub right_size : length s ≤ total_of n l → 0 ≡ size_number s
-            unfolding size_number
-            right_size h = rw (le-ltb _ _ a, ← n-is, le-ltb _ _ b, le-ltb _ _ c, ← l-is, le-ltb _ _ d, le-ltb _ _ e, le-ltb _ _ h)
 
 -- ---- what number 0 tells
 
@@ -86,19 +50,18 @@ sized s h =
 
 -- ---- verdicts and numbers
 
-pub accepted_number : (v : ReportVerdict) → is_accepted v ≡ eqb (report_number v) 0
-accepted_number Accepted = refl
-accepted_number Short = refl
-accepted_number TooMany = refl
-accepted_number Longer = refl
-accepted_number Reserved = refl
-accepted_number BadPages = refl
-accepted_number FallingIds = refl
-accepted_number SmallOutput = refl
+-- no reason has number 0
+pub reason_some : (why : ReportRefusal) → 0 < report_refusal_number why
+reason_some Short = omega arith
+reason_some TooMany = omega arith
+reason_some Longer = omega arith
+reason_some Reserved = omega arith
+reason_some BadPages = omega arith
+reason_some FallingIds = omega arith
+reason_some SmallOutput = omega arith
 
--- an accepted verdict's number is 0
-pub accepted_is : (v : ReportVerdict) (b : Bool) (n : ℕ) → report_number v ≡ n → b ≡ is_accepted v → b ≡ true → n ≡ 0
-accepted_is v b n p q e = sym p ∙ eqb-true (report_number v) 0 (sym (accepted_number v) ∙ sym q ∙ e)
+pub some_not_0 : (n : ℕ) → 0 < n → eqb n 0 ≡ false
+some_not_0 n h = ne_eqb n 0 (λ (e : n ≡ 0). omega arith)
 
 -- ---- what is in a report
 
@@ -107,30 +70,36 @@ pub content_same : (info n : ℕ) (p q : ℕ → Range) → ((k : ℕ) → k < n
 unfolding content_number
 content_same info n p q h = rw (attributes_agree n p q h, pages_agree n p q h, ids_agree n p q h)
 
+-- of the first n of a list, as the code passes them on
+pub content_front : (info n : ℕ) (ranges : List Range) → n ≡ length (take n ranges)
+    → content_number info (length (take n ranges)) (range_in (take n ranges)) ≡ content_number info n (range_in ranges)
+content_front info n ranges h = rw (← h) (content_same info n _ _ (λ k l. get_or-take n ranges k zero_range l))
+
+-- of n that were read into eight places
+pub content_eight : (info n : ℕ) (f : ℕ → Range) → content_number info n (range_in (eight_ranges n f)) ≡ content_number info n f
+content_eight info n f = content_same info n _ _ (range_read (eight_ranges n f) n f refl)
+
 -- ---- the ways out of the reader's verdict
 
-module _ (s : List ℕ) (v : ReportVerdict) (b : Bool) (size : report_number v ≡ size_number s) (told : b ≡ is_accepted v) where
-  test : b ≡ eqb (size_number s) 0
-  test = told ∙ accepted_number v ∙ ap (λ (n : ℕ). eqb n 0) size
-
-  pub wrong_size : not b ≡ true → report_number v ≡ read_number s
+module _ (s : List ℕ) where
+  pub wrong_size : (why : ReportRefusal) → report_refusal_number why ≡ size_number s → report_refusal_number why ≡ read_number s
   unfolding read_number
-  wrong_size e = rw (← test, e, size)
+  wrong_size why e = rw (← e, some_not_0 _ (reason_some why))
 
-  module _ (right : not b ≡ false) where
+  module _ (right : 0 ≡ size_number s) where
     pub is_sized : Sized s
-    is_sized = sized s (accepted_is v b (size_number s) size told (not-false b right))
+    is_sized = sized s (sym right)
 
-    module _ (z : Bool) (z-is : z ≡ zeros s 2 3) where
-      pub not_zero : not z ≡ true → 23 ≡ read_number s
-      unfolding read_number
-      not_zero e = rw (← test, right, ← z-is, e)
+    pub has_head : least_report ≤ length s
+    has_head = let z = is_sized in omega arith
 
-      pub by_content : (w : ReportVerdict) (n info : ℕ) (ranges : List Range) → not z ≡ false → n ≡ read_count s → ranges ≡ eight_ranges n (ranges_from s 16) → info ≡ num s 0 2
-          → report_number w ≡ content_number info n (range_in ranges) → report_number w ≡ read_number s
-      unfolding read_number
-      by_content w n info ranges e n-is r-is i-is p =
-          rw (← test, right, ← z-is, e, ← n-is, p, i-is) (content_same (num s 0 2) n _ _ (range_read ranges n (ranges_from s 16) r-is))
+    pub not_zero : zeros s 2 3 ≡ false → 23 ≡ read_number s
+    unfolding read_number
+    not_zero e = rw (← right, e)
+
+    pub by_content : zeros s 2 3 ≡ true → read_number s ≡ content_number (num s 0 2) (read_count s) (read_range s)
+    unfolding read_number
+    by_content e = rw (← right, e)
 
 -- ---- what the reader hands back
 
@@ -150,17 +119,14 @@ read_accepted s e =
     let p = read_passed (size_number s) (zeros s 2 3) (content_number (num s 0 2) (read_count s) (read_range s)) e in
     (sized s p.0, p.1, p.2)
 
-module _ (s : List ℕ) (v : ReportVerdict) (b : Bool) (number : report_number v ≡ read_number s) (told : b ≡ is_accepted v) where
-  pub read_sized : b ≡ true → Sized s
-  read_sized e = (read_accepted s (accepted_is v b (read_number s) number told e)).0
+module _ (s : List ℕ) where
+  pub read_sized : 0 ≡ read_number s → Sized s
+  read_sized e = (read_accepted s (sym e)).0
 
-  test_read : b ≡ eqb (read_number s) 0
-  test_read = told ∙ accepted_number v ∙ ap (λ (n : ℕ). eqb n 0) number
-
-  pub handed_fields : (f : ReportFields) → b ≡ true → f ≡ read_fields s → f ≡ handed_back s
+  pub handed_fields : 0 ≡ read_number s → handed_back s ≡ read_fields s
   unfolding handed_back
-  handed_fields f e p = rw (← test_read, e) p
+  handed_fields e = rw (← e)
 
-  pub handed_zeros : (f : ReportFields) → b ≡ false → f ≡ zero_fields → f ≡ handed_back s
+  pub handed_zeros : 0 < read_number s → handed_back s ≡ zero_fields
   unfolding handed_back
-  handed_zeros f e p = rw (← test_read, e) p
+  handed_zeros h = rw (some_not_0 _ h)

@@ -1,4 +1,5 @@
 -- The worked lines hold of the definitions. Assumes nothing.
+use Rattle.std.specs.Prelude.{Err}
 use mathlib.Core.Path.{◌≡◌, refl, ap}
 use mathlib.Core.Bool.{true, ◌&&◌}
 use mathlib.Core.List.{List, []}
@@ -16,15 +17,15 @@ use Rattle.rules.specs.Request.{Lent, kind_of, header, message, error_message, l
 use Rattle.rules.specs.Table.{records, record_bytes, table_number}
 use Rattle.rules.specs.Call.{least_reply, least_request, served, answered}
 use Rattle.rules.specs.Worked.{Hold, examples, one_range, other_version, version_mismatch}
-use Rattle.rules.specs.declared.Verdict.TheVariants.{Error}
 use Rattle.rules.proofs.Bools.{and_left, and_right}
 use Rattle.rules.proofs.Kept.{keeps}
 use Rattle.rules.proofs.Parts.{over_part}
 use Rattle.rules.proofs.WriteBack.{blank_part}
+use Rattle.rules.specs.declared.RequestError.TheVariants.{VersionMismatch}
 
 -- ---- a version that is not 10h
 
-mismatch : (q : List ℕ) (t : List ℕ) → q ≡ other_version → verdict q (records t) ≡ Error 0x41 0
+mismatch : (q : List ℕ) (t : List ℕ) → q ≡ other_version → verdict q (records t) ≡ Err VersionMismatch
 unfolding verdict
 mismatch q t e = rw e
 

@@ -12,11 +12,11 @@ use Rattle.rules.specs.Bytes.{byte, Bytes, num, blank, part, every, zero_at, zer
 use Rattle.rules.specs.Range.{most_ranges, range_bytes, range_from, ranges_from, bytes_of_range}
 use Rattle.rules.specs.Record.{most_information}
 use Rattle.rules.specs.Report.{most_report, information_from, bytes_of_ranges, field_range, head_of, report_bytes, read_count, read_range, length_place, read_length, read_number, read_fields, write_number, written_length}
-use Rattle.rules.specs.declared.Range.{Range}
 use Rattle.rules.proofs.Every.{every_at}
 use Rattle.rules.proofs.Parts.{length_part, part_join, part_all}
 use Rattle.rules.proofs.Numbers.{bytes_num}
 use Rattle.rules.proofs.Listed.{eight_at}
+use Rattle.rules.proofs.Written.{ranges_same}
 use Rattle.rules.proofs.Sizes.{Sized, read_accepted, content_same}
 
 -- ---- zero bytes
@@ -31,12 +31,6 @@ blank_part s at n e h =
     rw (get_or-replicate, get_or-take, get_or-drop) (sym (eqb-true (byte s (at + i)) 0 (every_at (zero_at s at) n i e m))))
 
 -- ---- ranges
-
--- ranges that agree below n
-pub ranges_same : (n : ℕ) (p q : ℕ → Range) → ((k : ℕ) → k < n → p k ≡ q k) → bytes_of_ranges n p ≡ bytes_of_ranges n q
-unfolding bytes_of_ranges
-ranges_same zero p q h = refl
-ranges_same (suc n) p q h = rw (ranges_same n p q (λ k l. h k (omega arith)), h n (omega arith))
 
 module _ (s : List ℕ) (b : Bytes s) where
   -- a range read and written

@@ -1,41 +1,26 @@
 -- The writer's tests, one by one. Assumes nothing.
 use Rattle.std.specs.Prelude.{if◌then◌else◌}
-use mathlib.Core.Path.{◌≡◌, refl, ap, ◌∙◌}
-use mathlib.Core.Bool.{Bool, true, false, not, ◌||◌}
+use mathlib.Core.Path.{◌≡◌, refl, sym}
+use mathlib.Core.Bool.{Bool, true, false, ◌||◌}
 use mathlib.Core.List.{List}
 use Prim.Native.Nat.{ℕ, ◌≤◌, ◌<◌}
 use native.Mathlib.Omega.{arith}
-use borrow.Author.Tests.{lt-ltb, le-ltb, ltb-false, not-true, not-false}
-use lib.Dec.{eqb, ltb}
-use lib.ListN.{length}
+use borrow.Author.Tests.{le-ltb, ltb-false}
+use lib.Dec.{ltb}
+use lib.ListN.{length, take}
 use Rattle.rules.specs.Bytes.{over}
-use Rattle.rules.specs.Range.{most_ranges}
+use Rattle.rules.specs.Range.{most_ranges, range_in}
 use Rattle.rules.specs.Record.{most_information}
-use Rattle.rules.specs.Report.{most_report, total_of, field_range, report_bytes, content_number, report_number, is_accepted, write_number, written_length, written}
+use Rattle.rules.specs.Report.{most_report, total_of, field_range, report_bytes, content_number, write_number, written_length, written}
 use Rattle.rules.specs.declared.ReportFields.{ReportFields}
-use Rattle.rules.specs.declared.ReportVerdict.{ReportVerdict}
-use Rattle.rules.proofs.Sizes.{accepted_number, accepted_is}
+use Rattle.rules.proofs.Sizes.{some_not_0, content_front}
 
--- ---- the ways out of the writer's verdict
+-- ---- the way out of the writer's verdict where the sizes are right
 
-module _ (f : ReportFields) (output : ℕ) where
-  pub small_output : output < most_report → 26 ≡ write_number f output
-  unfolding write_number
-  small_output h = rw (lt-ltb _ _ h)
-
-  module _ (room : most_report ≤ output) where
-    pub many_ranges : most_ranges < f.n → 21 ≡ write_number f output
-    unfolding write_number
-    many_ranges h = rw (le-ltb _ _ room, lt-ltb _ _ h)
-
-    module _ (few : f.n ≤ most_ranges) where
-      pub much_information : most_information < f.l → 21 ≡ write_number f output
-      unfolding write_number
-      much_information h = rw (le-ltb _ _ room, le-ltb _ _ few, lt-ltb _ _ h)
-
-      pub by_fields : (w : ReportVerdict) → f.l ≤ most_information → report_number w ≡ content_number f.info f.n (field_range f) → report_number w ≡ write_number f output
-      unfolding write_number
-      by_fields w h p = rw (le-ltb _ _ room, le-ltb _ _ few, le-ltb _ _ h, p)
+pub by_fields : (f : ReportFields) (output w : ℕ) → most_report ≤ output → f.n ≤ most_ranges → f.l ≤ most_information → f.n ≡ length (take f.n f.ranges)
+    → w ≡ content_number f.info (length (take f.n f.ranges)) (range_in (take f.n f.ranges)) → w ≡ write_number f output
+unfolding write_number
+by_fields f output w room few little long e = rw (le-ltb _ _ room, le-ltb _ _ few, le-ltb _ _ little, e) (content_front f.info f.n f.ranges long)
 
 -- ---- what number 0 tells
 
@@ -54,29 +39,30 @@ writer_accepts f output e =
 
 -- ---- what the writer returns and leaves
 
-module _ (f : ReportFields) (s : List ℕ) (v : ReportVerdict) (b : Bool) (number : report_number v ≡ write_number f (length s)) (told : b ≡ is_accepted v) where
-  test : b ≡ eqb (write_number f (length s)) 0
-  test = told ∙ accepted_number v ∙ ap (λ (n : ℕ). eqb n 0) number
-
-  module _ (no : not b ≡ true) where
-    pub no_length : 0 ≡ written_length f (length s)
+module _ (f : ReportFields) (s : List ℕ) where
+  module _ (no : 0 < write_number f (length s)) where
+    pub no_length : written_length f (length s) ≡ 0
     unfolding written_length
-    no_length = rw (← test, not-true b no)
+    no_length = rw (some_not_0 _ no)
 
-    pub nothing_written : s ≡ written f s
+    pub nothing_written : written f s ≡ s
     unfolding written
-    nothing_written = rw (← test, not-true b no)
+    nothing_written = rw (some_not_0 _ no)
 
-  module _ (yes : not b ≡ false) where
-    pub room_for : (f.n ≤ most_ranges) × (f.l ≤ most_information) × (most_report ≤ length s)
-    room_for =
-        let a = writer_accepts f (length s) (accepted_is v b (write_number f (length s)) number told (not-false b yes)) in
-        (a.1, a.2, a.0)
+  module _ (yes : 0 ≡ write_number f (length s)) where
+    pub few_ranges : f.n ≤ most_ranges
+    few_ranges = (writer_accepts f (length s) (sym yes)).1
 
-    pub whole_length : total_of f.n f.l ≡ written_length f (length s)
+    pub little_information : f.l ≤ most_information
+    little_information = (writer_accepts f (length s) (sym yes)).2
+
+    pub room_for : most_report ≤ length s
+    room_for = (writer_accepts f (length s) (sym yes)).0
+
+    pub whole_length : written_length f (length s) ≡ total_of f.n f.l
     unfolding written_length
-    whole_length = rw (← test, not-false b yes)
+    whole_length = rw (← yes)
 
-    pub whole_written : (t : List ℕ) → t ≡ over 0 (report_bytes f) s → t ≡ written f s
+    pub whole_written : written f s ≡ over 0 (report_bytes f) s
     unfolding written
-    whole_written t p = rw (← test, not-false b yes) p
+    whole_written = rw (← yes)

@@ -1,13 +1,13 @@
 -- A report written piece by piece. Assumes nothing.
 use mathlib.Core.Path.{◌≡◌, refl, sym}
 use mathlib.Core.List.{List, ◌++◌}
-use Prim.Native.Nat.{ℕ, zero, suc, ◌+◌, ◌*◌, ◌≤◌}
-use native.Mathlib.Nat.{le_antisymm}
+use Prim.Native.Nat.{ℕ, zero, suc, ◌+◌, ◌*◌, ◌≤◌, ◌<◌}
 use native.Mathlib.Numerals.{add-one}
 use native.Mathlib.Omega.{arith}
 use lib.ListN.{length, take, length-append}
+use lib.Seq.{get_or-take}
 use Rattle.rules.specs.Bytes.{bytes_of, over}
-use Rattle.rules.specs.Range.{range_bytes, bytes_of_range}
+use Rattle.rules.specs.Range.{range_bytes, bytes_of_range, range_in, zero_range}
 use Rattle.rules.specs.Report.{bytes_of_ranges, field_range, head_of, front_of, report_bytes}
 use Rattle.rules.specs.declared.Range.{Range}
 use Rattle.rules.specs.declared.ReportFields.{ReportFields}
@@ -48,20 +48,27 @@ range_written x at s a b c d room p q r t =
 
 -- ---- n ranges, one after the other
 
+-- ranges that agree below n
+pub ranges_same : (n : ℕ) (p q : ℕ → Range) → ((k : ℕ) → k < n → p k ≡ q k) → bytes_of_ranges n p ≡ bytes_of_ranges n q
+unfolding bytes_of_ranges
+ranges_same zero p q h = refl
+ranges_same (suc n) p q h = rw (ranges_same n p q (λ k l. h k (omega arith)), h n (omega arith))
+
+-- the first n of a list, as the code passes them on
+pub ranges_front : (n : ℕ) (ranges : List Range) → n ≡ length (take n ranges)
+    → bytes_of_ranges (length (take n ranges)) (range_in (take n ranges)) ≡ bytes_of_ranges n (range_in ranges)
+ranges_front n ranges h = rw (← h) (ranges_same n _ _ (λ k l. get_or-take n ranges k zero_range l))
+
 module _ (f : ℕ → Range) (at : ℕ) (s : List ℕ) where
   pub ranges_none : s ≡ over at (bytes_of_ranges 0 f) s
   unfolding bytes_of_ranges
   ranges_none = sym (over_nothing at s)
 
-  pub ranges_more : (n k : ℕ) (x : Range) (one two : List ℕ) → at + n * range_bytes ≤ length s → one ≡ over at (bytes_of_ranges k f) s → two ≡ over (at + k * range_bytes) (bytes_of_range x) one → x ≡ f k
-      → two ≡ over at (bytes_of_ranges (k + 1) f) s
+  pub ranges_more : (k : ℕ) (x : Range) → at ≤ length s → x ≡ f k
+      → over (at + k * range_bytes) (bytes_of_range x) (over at (bytes_of_ranges k f) s) ≡ over at (bytes_of_ranges (k + 1) f) s
   unfolding bytes_of_ranges
-  ranges_more n k x one two room p q e =
-      let h : at ≤ length s = omega arith in
-      rw (add-one, ← e) (next_piece at (at + k * range_bytes) (bytes_of_ranges k f) (bytes_of_range x) s one two p q h (rw length_ranges))
-
-  pub ranges_done : (n k : ℕ) (one : List ℕ) → k ≤ n → n ≤ k → one ≡ over at (bytes_of_ranges k f) s → one ≡ over at (bytes_of_ranges n f) s
-  ranges_done n k one l m p = rw (le_antisymm l m) at p
+  ranges_more k x h e =
+      rw (add-one, e) (next_piece at (at + k * range_bytes) (bytes_of_ranges k f) (bytes_of_range (f k)) s _ _ refl refl h (rw length_ranges))
 
 -- ---- the head, and the whole
 
@@ -75,12 +82,15 @@ head_written f s a b c d e g p q r t u v =
     let four = next_piece 0 8 _ _ s d e three u (omega arith) refl in
     next_piece 0 12 _ _ s e g four v (omega arith) refl
 
-pub front_written : (f : ReportFields) (s a b : List ℕ) → a ≡ over 0 (head_of f) s → b ≡ over 16 (bytes_of_ranges f.n (field_range f)) a → b ≡ over 0 (front_of f) s
-front_written f s a b p q = next_piece 0 16 _ _ s a b p q (omega arith) (simp length_head)
+pub front_written : (f : ReportFields) (s : List ℕ) → over 16 (bytes_of_ranges f.n (field_range f)) (over 0 (head_of f) s) ≡ over 0 (front_of f) s
+front_written f s = next_piece 0 16 _ _ s _ _ refl refl (omega arith) (simp length_head)
 
-pub report_written : (f : ReportFields) (s a b c : List ℕ) → a ≡ over 0 (front_of f) s → b ≡ over (16 + f.n * range_bytes) (bytes_of 4 f.l) a
-    → c ≡ over (16 + f.n * range_bytes + 4) (take f.l f.information) b → c ≡ over 0 (report_bytes f) s
+pub report_written : (f : ReportFields) (s : List ℕ)
+    → over (16 + f.n * range_bytes + 4) (take f.l f.information) (over (16 + f.n * range_bytes) (bytes_of 4 f.l) (over 0 (front_of f) s)) ≡ over 0 (report_bytes f) s
 unfolding report_bytes
-report_written f s a b c p q r =
-    let one = next_piece 0 (16 + f.n * range_bytes) _ _ s a b p q (omega arith) (simp (length-append, length_head, length_ranges) (omega arith)) in
-    next_piece 0 (16 + f.n * range_bytes + 4) _ _ s b c one r (omega arith) (simp (length-append, length_head, length_ranges, length_bytes) (omega arith))
+report_written f s =
+    let at = 16 + f.n * range_bytes in
+    let a = over 0 (front_of f) s in
+    let b = over at (bytes_of 4 f.l) a in
+    let one = next_piece 0 at (front_of f) (bytes_of 4 f.l) s a b refl refl (omega arith) (simp (length-append, length_head, length_ranges) (omega arith)) in
+    next_piece 0 (at + 4) _ (take f.l f.information) s b _ one refl (omega arith) (simp (length-append, length_head, length_ranges, length_bytes) (omega arith))

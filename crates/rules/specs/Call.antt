@@ -1,40 +1,33 @@
 -- Document 01, "What a call gets": numbers 0 to 7, answer, reply and table, of every call, over what it is given, byte for byte.
-use Rattle.std.specs.Prelude.{Bool, not, ◌&&◌, ◌≡◌, List, [], ◌∷◌, ◌++◌, map, ℕ, eqb, ltb, length, get_or, set, if◌then◌else◌}
+use Rattle.std.specs.Prelude.{Bool, not, ◌&&◌, ◌≡◌, List, [], ◌∷◌, ◌++◌, map, ℕ, eqb, ltb, length, get_or, set, Result, Ok, Err, if◌then◌else◌}
 use Rattle.rules.specs.Bytes.{over}
 use Rattle.rules.specs.Change.{rule_of, hits, write_hits, moved, differing, firmware_yes}
 use Rattle.rules.specs.Identity.{identity_of}
 use Rattle.rules.specs.Record.{Rec}
-use Rattle.rules.specs.Request.{Lent, effect, error_message, verdict}
-use Rattle.rules.specs.Table.{records, table_number, refusal_number, find, lookup_number}
-use Rattle.rules.specs.declared.Answer.{Answer}
-use Rattle.rules.specs.declared.Answer.TheVariants.{Served, Refused}
+use Rattle.rules.specs.Report.{value_or_0}
+use Rattle.rules.specs.Request.{Lent, effect, error_message, error_code, error_datum, verdict}
+use Rattle.rules.specs.Table.{records, table_number, refusal_number, number_or_0, find, lookup_number}
 use Rattle.rules.specs.declared.Event.{Event}
 use Rattle.rules.specs.declared.Identity.{Identity}
+use Rattle.rules.specs.declared.Refusal.{Refusal}
+use Rattle.rules.specs.declared.RequestError.{RequestError}
 use Rattle.rules.specs.declared.Rule.{Rule}
-use Rattle.rules.specs.declared.FirmwareAnswer.{FirmwareAnswer}
-use Rattle.rules.specs.declared.Verdict.{Verdict}
-use Rattle.rules.specs.declared.Verdict.TheVariants.{Error, Serve}
 
 -- this paper's numbers of the answers
-abbrev pub answer_number : Answer → ℕ
-answer_number (Served n) = 0
-answer_number (Refused why) = refusal_number why
+abbrev pub answer_number : Result ℕ Refusal → ℕ
+answer_number = number_or_0 refusal_number
 
 -- Beside any refusal number the length or count is 0.
-abbrev pub answer_value : Answer → ℕ
-answer_value (Served n) = n
-answer_value (Refused why) = 0
+abbrev pub answer_value : Result ℕ Refusal → ℕ
+answer_value = value_or_0
 
 -- and the firmware answer, 1 for yes, is no
-abbrev pub firmware_number : FirmwareAnswer → ℕ
-firmware_number FirmwareAnswer.Yes = 0
-firmware_number FirmwareAnswer.No = 0
-firmware_number (FirmwareAnswer.Refused why) = refusal_number why
+abbrev pub firmware_number : Result Bool Refusal → ℕ
+firmware_number = number_or_0 refusal_number
 
-abbrev pub firmware_value : FirmwareAnswer → ℕ
-firmware_value FirmwareAnswer.Yes = 1
-firmware_value FirmwareAnswer.No = 0
-firmware_value (FirmwareAnswer.Refused why) = 0
+abbrev pub firmware_value : Result Bool Refusal → ℕ
+firmware_value (Ok let_it) = if let_it then 1 else 0
+firmware_value (Err why) = 0
 
 -- the bytes of records
 unfoldable pub join : List Rec → List ℕ
@@ -63,9 +56,9 @@ abbrev pub served : List ℕ → Lent → List ℕ → Outcome
 served m l t = record { number = 0; value = length m; reply = over 0 m l.reply; table = t }
 
 -- A TDISP_ERROR reply is served: number 0, table unchanged.
-abbrev pub carried_out : Verdict → Lent → List ℕ → Outcome
-carried_out (Error code datum) l t = served (error_message code datum l.request) l t
-carried_out (Serve k) l t =
+abbrev pub carried_out : Result ℕ RequestError → Lent → List ℕ → Outcome
+carried_out (Err why) l t = served (error_message (error_code why) (error_datum why) l.request) l t
+carried_out (Ok k) l t =
     let e = effect l (get_or (records t) k []) in
     served e.reply l (join (set (records t) k e.rec))
 
@@ -135,13 +128,13 @@ step (DeviceWide e) t = happened e t
 step FirmwareQuestion t = firmware_asked t
 
 -- what a function that makes a call returns and leaves
-pub record Gives (o : Outcome) (r : Answer) (reply table : List ℕ) : Type 0 where
+pub record Gives (o : Outcome) (r : Result ℕ Refusal) (reply table : List ℕ) : Type 0 where
   pub number_is : answer_number r ≡ o.number
   pub value_is : answer_value r ≡ o.value
   pub reply_is : reply ≡ o.reply
   pub table_is : table ≡ o.table
 
 -- and what the firmware question returns; it cannot change the table
-pub record Says (o : Outcome) (r : FirmwareAnswer) : Type 0 where
+pub record Says (o : Outcome) (r : Result Bool Refusal) : Type 0 where
   pub number_is : firmware_number r ≡ o.number
   pub value_is : firmware_value r ≡ o.value

@@ -1,11 +1,12 @@
 -- Document 02, 2/12, "A collector for reports that come in portions": the replies of type 04h for one interface, put together.
-use Rattle.std.specs.Prelude.{Bool, true, false, not, ◌&&◌, List, ℕ, ◌+◌, eqb, leb, ltb, length, take, drop, if◌then◌else◌}
+use Rattle.std.specs.Prelude.{Bool, true, false, not, ◌&&◌, List, ℕ, ◌+◌, eqb, leb, ltb, length, take, drop, Result, Ok, Err, if◌then◌else◌}
 use Rattle.rules.specs.Bytes.{byte, num, blank, over}
 use Rattle.rules.specs.Identity.{identity_of, identity_at, same}
 use Rattle.rules.specs.Report.{most_report}
 use Rattle.rules.specs.Request.{kind_of}
-use Rattle.rules.specs.declared.PortionVerdict.{PortionVerdict}
-use Rattle.rules.specs.declared.PortionVerdict.TheVariants.{Taken, NotReport, OtherInterface, OtherLength, TotalDifferent, TotalOver}
+use Rattle.rules.specs.Table.{number_or_0}
+use Rattle.rules.specs.declared.PortionRefusal.{PortionRefusal}
+use Rattle.rules.specs.declared.PortionRefusal.TheVariants.{NotReport, OtherInterface, OtherLength, TotalDifferent, TotalOver}
 
 -- A collector keeps the bytes it has so far and how many: of the interface with this FUNCTION_ID; whether a reply was taken, and the total then.
 pub record Collection : Type 0 where
@@ -65,25 +66,28 @@ is_different c p = c.begun && not (eqb (total_said c p) c.total)
 
 -- It refuses by the first of these names that applies: not a report reply, other interface, length not as the portion says, total different
 -- from before, total over 200.
-unfoldable pub portion_verdict : Collection → List ℕ → PortionVerdict
+unfoldable pub portion_verdict : Collection → List ℕ → Result Unit PortionRefusal
 portion_verdict c p =
-    if not (is_report_reply p) then NotReport
-    else if not (is_for_it c p) then OtherInterface
-    else if not (eqb (length p) (least_report_reply + portion_said p)) then OtherLength
-    else if is_different c p then TotalDifferent
-    else if ltb most_report (total_said c p) then TotalOver
-    else Taken
+    if not (is_report_reply p) then Err NotReport
+    else if not (is_for_it c p) then Err OtherInterface
+    else if not (eqb (length p) (least_report_reply + portion_said p)) then Err OtherLength
+    else if is_different c p then Err TotalDifferent
+    else if ltb most_report (total_said c p) then Err TotalOver
+    else Ok tt
 
 -- the C interface's own numbers of these names: 02 gives none
-abbrev pub portion_number : PortionVerdict → ℕ
-portion_number Taken = 0
-portion_number NotReport = 30
-portion_number OtherInterface = 31
-portion_number OtherLength = 32
-portion_number TotalDifferent = 33
-portion_number TotalOver = 34
+abbrev pub portion_refusal_number : PortionRefusal → ℕ
+portion_refusal_number NotReport = 30
+portion_refusal_number OtherInterface = 31
+portion_refusal_number OtherLength = 32
+portion_refusal_number TotalDifferent = 33
+portion_refusal_number TotalOver = 34
 
-abbrev pub is_taken : PortionVerdict → Bool
+-- 0 where the reply is taken
+abbrev pub portion_number : Result Unit PortionRefusal → ℕ
+portion_number = number_or_0 portion_refusal_number
+
+abbrev pub is_taken : Result Unit PortionRefusal → Bool
 is_taken v = eqb (portion_number v) 0
 
 -- ---- what becomes of it

@@ -1,12 +1,10 @@
 -- Document 01, "Lock": the flags and the offset, which the table's rules cite too.
-use Rattle.std.specs.Prelude.{Bool, true, false, ◌&&◌, ℕ, ◌+◌, ◌-◌, ◌*◌, ◌%◌, ◌^◌, eqb, leb, ltb, ℤ, pos, negsuc, nat_abs, ◌+ℤ◌, if◌then◌else◌}
+use Rattle.std.specs.Prelude.{Bool, true, false, ◌&&◌, ℕ, ◌+◌, ◌-◌, ◌*◌, ◌%◌, ◌^◌, eqb, leb, ltb, Option, Some, None, ℤ, pos, negsuc, nat_abs, ◌+ℤ◌, if◌then◌else◌}
 use Rattle.std.specs.Int.Bits.{bit_and}
 use Rattle.std.specs.Int.Signed.{quot_z}
 use Rattle.rules.specs.Bytes.{bit, bit_clear, every}
 use Rattle.rules.specs.Range.{pages_end}
 use Rattle.rules.specs.declared.Range.{Range}
-use Rattle.rules.specs.declared.Shifted.{Shifted}
-use Rattle.rules.specs.declared.Shifted.TheVariants.{Page, Out}
 
 -- ---- flags
 
@@ -37,17 +35,17 @@ abbrev pub whole_pages : ℤ → Bool
 whole_pages offset = eqb (nat_abs offset % page_bytes) 0
 
 -- and for every range first + offset/4096 is at least 0 and, with pages added, at most 2^52
-abbrev pub fitted : ℤ → ℕ → Shifted
-fitted (pos page) pages = if leb (page + pages) pages_end then Page page else Out
-fitted (negsuc below) pages = Out
+abbrev pub fitted : ℤ → ℕ → Option ℕ
+fitted (pos page) pages = if leb (page + pages) pages_end then Some page else None
+fitted (negsuc below) pages = None
 
-unfoldable pub shifted : ℤ → Range → Shifted
+unfoldable pub shifted : ℤ → Range → Option ℕ
 shifted offset range = fitted (pos range.first +ℤ quot_z offset (pos page_bytes)) range.pages
 
 -- else 01h
-abbrev pub stays : Shifted → Bool
-stays (Page first) = true
-stays Out = false
+abbrev pub stays : Option ℕ → Bool
+stays (Some first) = true
+stays None = false
 
 abbrev pub all_stay : ℤ → ℕ → (ℕ → Range) → Bool
 all_stay offset n ranges = every n (λ k. stays (shifted offset (ranges k)))

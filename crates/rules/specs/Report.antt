@@ -1,36 +1,28 @@
 -- Document 01, "Report" and "Report reader".
-use Rattle.std.specs.Prelude.{◌≡◌, Bool, true, false, not, ◌&&◌, ◌||◌, List, [], ◌++◌, ℕ, zero, suc, ◌+◌, ◌-◌, ◌*◌, ◌/◌, ◌^◌, ◌<◌, min, eqb, ltb, ℤ, length, take, replicate, if◌then◌else◌}
+use Rattle.std.specs.Prelude.{◌≡◌, Bool, not, ◌&&◌, ◌||◌, List, [], ◌++◌, ℕ, zero, suc, ◌+◌, ◌-◌, ◌*◌, ◌/◌, ◌^◌, ◌<◌, min, eqb, ltb, ℤ, length, take, replicate, Option, Some, None, Result, Ok, Err, if◌then◌else◌}
 use Rattle.rules.specs.Bytes.{Bytes, num, bytes_of, bits, blank, part, over, zeros}
 use Rattle.rules.specs.Lock.{signed, shifted}
 use Rattle.rules.specs.Range.{most_ranges, range_bytes, ranges_from, bytes_of_range, zero_range, eight_ranges, range_in, all_pages, all_attributes, never_fall, ids_of}
 use Rattle.rules.specs.Record.{Rec, most_information, no_fw_update, lock_msix, interface_info, msix_control, lnr_control, tph_control, offset, range_count, range_of, information_length}
+use Rattle.rules.specs.Table.{number_or_0}
 use Rattle.rules.specs.declared.Range.{Range}
 use Rattle.rules.specs.declared.ReportFields.{ReportFields}
-use Rattle.rules.specs.declared.ReportVerdict.{ReportVerdict}
-use Rattle.rules.specs.declared.ReportVerdict.TheVariants.{Accepted, Short, TooMany, Longer, Reserved, BadPages, FallingIds, SmallOutput}
-use Rattle.rules.specs.declared.Shifted.{Shifted}
-use Rattle.rules.specs.declared.Shifted.TheVariants.{Page, Out}
+use Rattle.rules.specs.declared.ReportRefusal.{ReportRefusal}
+use Rattle.rules.specs.declared.ReportRefusal.TheVariants.{Short, TooMany, Longer, Reserved, BadPages, FallingIds, SmallOutput}
 
 -- this paper's numbers
-abbrev pub report_number : ReportVerdict → ℕ
-report_number Accepted = 0
-report_number Short = 20
-report_number TooMany = 21
-report_number Longer = 22
-report_number Reserved = 23
-report_number BadPages = 24
-report_number FallingIds = 25
-report_number SmallOutput = 26
+abbrev pub report_refusal_number : ReportRefusal → ℕ
+report_refusal_number Short = 20
+report_refusal_number TooMany = 21
+report_refusal_number Longer = 22
+report_refusal_number Reserved = 23
+report_refusal_number BadPages = 24
+report_refusal_number FallingIds = 25
+report_refusal_number SmallOutput = 26
 
-abbrev pub is_accepted : ReportVerdict → Bool
-is_accepted Accepted = true
-is_accepted Short = false
-is_accepted TooMany = false
-is_accepted Longer = false
-is_accepted Reserved = false
-is_accepted BadPages = false
-is_accepted FallingIds = false
-is_accepted SmallOutput = false
+-- 0 where a report is accepted
+abbrev pub report_number : {T : Type 0} → Result T ReportRefusal → ℕ
+report_number = number_or_0 report_refusal_number
 
 -- Total is 20 + 16N + L, at most 200.
 abbrev pub least_report : ℕ
@@ -142,6 +134,11 @@ zero_fields = record {
 unfoldable pub handed_back : List ℕ → ReportFields
 handed_back s = if eqb (read_number s) 0 then read_fields s else zero_fields
 
+-- what a reader's result hands back: its fields, or zeros beside a refusal
+abbrev pub fields_or_0 : Result ReportFields ReportRefusal → ReportFields
+fields_or_0 (Ok f) = f
+fields_or_0 (Err why) = zero_fields
+
 -- ---- the writer
 
 -- 26 for a short output, tested first; 21 covers N over 8 and L over 52; then 23 to 25
@@ -154,6 +151,11 @@ write_number f output =
 -- A written report's length is returned and the rest of the output stays; a refusal writes nothing and returns length 0.
 unfoldable pub written_length : ReportFields → ℕ → ℕ
 written_length f output = if eqb (write_number f output) 0 then total_of f.n f.l else 0
+
+-- the length that a writer's result returns
+abbrev pub value_or_0 : {E : Type 0} → Result ℕ E → ℕ
+value_or_0 (Ok n) = n
+value_or_0 (Err why) = 0
 
 unfoldable pub written : ReportFields → List ℕ → List ℕ
 written f output = if eqb (write_number f (length output)) 0 then over 0 (report_bytes f) output else output
@@ -194,9 +196,9 @@ normal f = record {
 -- ---- the report of a record
 
 -- with shifted first page
-abbrev pub page_of : Shifted → ℕ
-page_of (Page first) = first
-page_of Out = 0
+abbrev pub page_of : Option ℕ → ℕ
+page_of (Some first) = first
+page_of None = 0
 
 -- Attribute bits 0 and 1 are cleared unless LOCK_MSIX.
 abbrev pub shown_attributes : Bool → ℕ → ℕ

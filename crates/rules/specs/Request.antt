@@ -1,17 +1,15 @@
 -- Document 01, "Requests (001)": the checks, and what each request does to the record that it names.
-use Rattle.std.specs.Prelude.{Bool, true, not, ◌||◌, List, [], ◌∷◌, ◌++◌, ℕ, ◌/◌, ◌%◌, eqb, leb, length, if◌then◌else◌}
+use Rattle.std.specs.Prelude.{Bool, true, not, ◌||◌, List, [], ◌∷◌, ◌++◌, ℕ, ◌/◌, ◌%◌, eqb, leb, length, Option, Some, None, Result, Ok, Err, if◌then◌else◌}
 use Rattle.rules.specs.Bytes.{byte, num, bytes_of, bit_set, blank, part, over, same_bytes}
 use Rattle.rules.specs.Identity.{identity_at}
 use Rattle.rules.specs.Lock.{supported, stored}
 use Rattle.rules.specs.Record.{Rec, CONFIG_UNLOCKED, CONFIG_LOCKED, RUN, state, nonce, offset_ok}
 use Rattle.rules.specs.Report.{report_total, portion_bytes}
 use Rattle.rules.specs.Table.{find}
-use Rattle.rules.specs.declared.Found.{Found}
-use Rattle.rules.specs.declared.Found.TheVariants.{At, Nothing}
+use Rattle.rules.specs.declared.RequestError.{RequestError}
+use Rattle.rules.specs.declared.RequestError.TheVariants.{InvalidRequest, InvalidInterfaceState, UnsupportedRequest, VersionMismatch, InvalidInterface, InvalidNonce, InsufficientEntropy, InvalidDeviceConfiguration}
 use Rattle.rules.specs.declared.Session.{Session}
 use Rattle.rules.specs.declared.Stream.{Stream}
-use Rattle.rules.specs.declared.Verdict.{Verdict}
-use Rattle.rules.specs.declared.Verdict.TheVariants.{Error, Serve}
 
 -- what a request is lent beside the table
 pub record Lent : Type 0 where
@@ -42,6 +40,28 @@ message kind q payload = header kind q ++ payload
 abbrev pub error_message : ℕ → ℕ → List ℕ → List ℕ
 error_message code datum q = message 0x7f q (bytes_of 4 code ++ bytes_of 4 datum)
 
+-- the codes
+abbrev pub error_code : RequestError → ℕ
+error_code InvalidRequest = 0x01
+error_code InvalidInterfaceState = 0x04
+error_code (UnsupportedRequest kind) = 0x07
+error_code VersionMismatch = 0x41
+error_code InvalidInterface = 0x101
+error_code InvalidNonce = 0x102
+error_code InsufficientEntropy = 0x103
+error_code InvalidDeviceConfiguration = 0x104
+
+-- and the data: 0, but 07h has the type (001: its data is the request code)
+abbrev pub error_datum : RequestError → ℕ
+error_datum InvalidRequest = 0
+error_datum InvalidInterfaceState = 0
+error_datum (UnsupportedRequest kind) = kind
+error_datum VersionMismatch = 0
+error_datum InvalidInterface = 0
+error_datum InvalidNonce = 0
+error_datum InsufficientEntropy = 0
+error_datum InvalidDeviceConfiguration = 0
+
 -- ---- the checks
 
 -- the request table: the exact length of a request; 0 where the type is unlisted
@@ -64,17 +84,17 @@ legal_in kind s =
     else if eqb kind 0x86 then eqb s CONFIG_LOCKED
     else true
 
-abbrev pub looked_up : Found → Verdict
-looked_up Nothing = Error 0x101 0
-looked_up (At k) = Serve k
+abbrev pub looked_up : Option ℕ → Result ℕ RequestError
+looked_up None = Err InvalidInterface
+looked_up (Some k) = Ok k
 
 -- Checks in order: version not 10h, 41h VERSION_MISMATCH; type unlisted, 07h UNSUPPORTED_REQUEST (001: its data is the request code);
 -- length not exact, 01h INVALID_REQUEST; interface unknown, 101h INVALID_INTERFACE;
-unfoldable pub verdict : List ℕ → List Rec → Verdict
+unfoldable pub verdict : List ℕ → List Rec → Result ℕ RequestError
 verdict q rs =
-    if not (eqb (byte q 0) 0x10) then Error 0x41 0
-    else if eqb (exact_length (kind_of q)) 0 then Error 0x07 (kind_of q)
-    else if not (eqb (length q) (exact_length (kind_of q))) then Error 0x01 0
+    if not (eqb (byte q 0) 0x10) then Err VersionMismatch
+    else if eqb (exact_length (kind_of q)) 0 then Err (UnsupportedRequest (kind_of q))
+    else if not (eqb (length q) (exact_length (kind_of q))) then Err InvalidRequest
     else looked_up (find (identity_at q 4) rs)
 
 -- ---- what a request does: the reply, and the record afterwards

@@ -1,11 +1,8 @@
 -- Document 01, "The table (ours)" and "What a call gets": records of one fixed size, no header, and refusals 1 to 3.
-use Rattle.std.specs.Prelude.{Bool, true, false, not, ◌&&◌, List, [], ◌∷◌, ℕ, zero, suc, ◌*◌, ◌/◌, ◌%◌, eqb, leb, length, take, drop, get_or, if◌then◌else◌}
+use Rattle.std.specs.Prelude.{Bool, true, false, not, ◌&&◌, List, [], ◌∷◌, ℕ, zero, suc, ◌*◌, ◌/◌, ◌%◌, eqb, leb, length, take, drop, get_or, Option, Some, None, Result, Ok, Err, if◌then◌else◌}
 use Rattle.rules.specs.Identity.{identity_at, same}
 use Rattle.rules.specs.Record.{Rec, record_ok}
 use Rattle.rules.specs.declared.Identity.{Identity}
-use Rattle.rules.specs.declared.Found.{Found}
-use Rattle.rules.specs.declared.Found.TheVariants.{At, Nothing}
-use Rattle.rules.specs.declared.Judgement.{Judgement}
 use Rattle.rules.specs.declared.Refusal.{Refusal}
 use Rattle.rules.specs.declared.Refusal.TheVariants.{TableLength, TableRecord, TableIdentities, ReplyShort, RequestShort, Inputs, Interface}
 
@@ -76,26 +73,30 @@ refusal_number RequestShort = 5
 refusal_number Inputs = 6
 refusal_number Interface = 7
 
+-- a reason's number; 0 where nothing is refused
+abbrev pub number_or_0 : {T E : Type 0} → (E → ℕ) → Result T E → ℕ
+number_or_0 number (Ok x) = 0
+number_or_0 number (Err why) = number why
+
 -- and of a judgement
-abbrev pub judgement_number : Judgement → ℕ
-judgement_number Judgement.Accepted = 0
-judgement_number (Judgement.Refused why) = refusal_number why
+abbrev pub judgement_number : Result Unit Refusal → ℕ
+judgement_number = number_or_0 refusal_number
 
 -- ---- lookup by identity
 
 -- the place of the first record for an interface, counted from k
-unfoldable pub find_from : ℕ → Identity → List Rec → Found
-find_from k who [] = Nothing
-find_from k who (r ∷ rs) = if names who r then At k else find_from (suc k) who rs
+unfoldable pub find_from : ℕ → Identity → List Rec → Option ℕ
+find_from k who [] = None
+find_from k who (r ∷ rs) = if names who r then Some k else find_from (suc k) who rs
 
-abbrev pub find : Identity → List Rec → Found
+abbrev pub find : Identity → List Rec → Option ℕ
 find who rs = find_from 0 who rs
 
-abbrev pub nothing : Found → Bool
-nothing (At k) = false
-nothing Nothing = true
+abbrev pub nothing : Option ℕ → Bool
+nothing (Some k) = false
+nothing None = true
 
 -- the paper's numbers of a lookup: a register write whose interface is no record's gets 7. (A request gets an error: `looked_up` in Request.)
-abbrev pub lookup_number : Found → ℕ
-lookup_number (At k) = 0
-lookup_number Nothing = 7
+abbrev pub lookup_number : Option ℕ → ℕ
+lookup_number (Some k) = 0
+lookup_number None = 7

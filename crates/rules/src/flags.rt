@@ -20,6 +20,7 @@ impl LockFlags {
     }
 
     // None of bits 1, 3 and 4 is set.
+    #[tactic(auto, using(crate::proofs::Bits::supported_mask))]
     pub fn supported(self) -> bool
         ensures { result ≡ supported self.0 }
     {

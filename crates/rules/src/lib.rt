@@ -3,16 +3,17 @@
 
 pub mod bit;
 pub mod flags;
+mod function_id;
 pub mod place;
 pub mod report;
 pub mod request;
 pub mod state;
 
-ghost use Rattle.std.specs.Prelude.{◌≡◌};
-ghost use Rattle.rules.specs.Call.{answer_number, answer_value, firmware_number, firmware_value};
-ghost use Rattle.rules.specs.Collector.{portion_number};
-ghost use Rattle.rules.specs.Report.{report_number};
-ghost use Rattle.rules.specs.Table.{refusal_number};
+ghost use Rattle.std.specs.Prelude.{◌≡◌, ℕ};
+ghost use Rattle.rules.specs.Collector.{portion_refusal_number};
+ghost use Rattle.rules.specs.Report.{report_refusal_number};
+ghost use Rattle.rules.specs.Request.{error_code, error_datum};
+ghost use Rattle.rules.specs.Table.{refusal_number, number_or_0};
 
 // 01, "The table": records of one fixed size, 1 to 64 of them.
 pub const RECORD_BYTES: usize = 256;
@@ -23,26 +24,34 @@ pub const MOST_RECORDS: usize = 64;
 pub const PAGES_END: u64 = 4503599627370496;
 
 // 01: a requester number, a stream number and a session number may never stand for one another.
-#[derive(Clone, Copy)]
+#[derive(Clone, Copy, PartialEq, Eq)]
 pub struct Requester(pub u16);
 
-#[derive(Clone, Copy)]
+#[derive(Clone, Copy, PartialEq, Eq)]
 pub struct Stream(pub u8);
 
-#[derive(Clone, Copy)]
+#[derive(Clone, Copy, PartialEq, Eq)]
 pub struct Session(pub u8);
 
-// FUNCTION_ID taken apart: bits 15:0, 23:16 and 24.
-#[derive(Clone, Copy)]
+// FUNCTION_ID taken apart: bits 15:0, and 23:16 where bit 24 says that they count. Two are the same interface's exactly if they are equal.
+#[derive(Clone, Copy, PartialEq, Eq)]
 pub struct Identity {
     pub requester: Requester,
-    pub segment: u8,
-    pub valid: bool,
+    pub segment: Option<u8>,
+}
+
+// What a lock is given beside the request: nonce bytes, whether they are ready, the stream map, the session.
+#[derive(Clone, Copy)]
+pub struct Inputs<'a> {
+    pub nonce: &'a [u8; 32],
+    pub ready: bool,
+    pub streams: &'a [u8; 32],
+    pub session: Session,
 }
 
 // A range of pages: 16 bytes of a record or of a report. It crosses to C as it stands.
 #[repr(C)]
-#[derive(Clone, Copy)]
+#[derive(Clone, Copy, Default)]
 pub struct Range {
     pub first: u64,
     pub pages: u32,
@@ -50,15 +59,8 @@ pub struct Range {
     pub id: u16,
 }
 
-// What an offset makes of a range: the first page that is reported, or none that the lock's rule allows.
-#[derive(Clone, Copy)]
-pub enum Shifted {
-    Page(u64),
-    Out,
-}
-
-// The fields of an interface report: N ranges and L bytes of information count, of eight and 52.
-#[derive(Clone, Copy)]
+// The fields of an interface report: N ranges and L bytes of information count, of eight and 52: no heap, and it crosses to C so.
+#[derive(Clone, Copy, Default)]
 pub struct ReportFields {
     pub info: u16,
     pub msix: u16,
@@ -70,83 +72,102 @@ pub struct ReportFields {
     pub information: [u8; 52],
 }
 
-// What the report reader and writer find.
-#[derive(Clone, Copy)]
-pub enum ReportVerdict {
-    Accepted,
-    Short,
-    TooMany,
-    Longer,
-    Reserved,
-    BadPages,
-    FallingIds,
-    SmallOutput,
+// A reason why something is refused, by its number in the paper or in the C interface.
+pub trait Numbered: Copy {
+    ghost number_of: { Self → ℕ };
+
+    fn number(self) -> u32
+        ensures { result ≡ number_of self };
 }
 
-impl ReportVerdict {
-    // The paper's number: 0 where the report is accepted.
-    pub fn number(self) -> u32
-        ensures { result ≡ report_number self }
-    {
+// 0 where nothing is refused.
+impl<T: Copy, E: Numbered> Numbered for Result<T, E> {
+    ghost number_of = { number_or_0 E.number_of };
+
+    fn number(self) -> u32 {
         match self {
-            ReportVerdict::Accepted => 0,
-            ReportVerdict::Short => 20,
-            ReportVerdict::TooMany => 21,
-            ReportVerdict::Longer => 22,
-            ReportVerdict::Reserved => 23,
-            ReportVerdict::BadPages => 24,
-            ReportVerdict::FallingIds => 25,
-            ReportVerdict::SmallOutput => 26,
+            Ok(_) => 0,
+            Err(why) => why.number(),
         }
     }
 }
 
-// What the reader hands back: zeros beside a refusal.
+// Why the report reader and writer refuse: the paper's numbers.
 #[derive(Clone, Copy)]
-pub struct ReadReport {
-    pub verdict: ReportVerdict,
-    pub fields: ReportFields,
+pub enum ReportRefusal {
+    Short = 20,
+    TooMany = 21,
+    Longer = 22,
+    Reserved = 23,
+    BadPages = 24,
+    FallingIds = 25,
+    SmallOutput = 26,
 }
 
-// What the writer returns: length 0 beside a refusal.
-#[derive(Clone, Copy)]
-pub struct WrittenReport {
-    pub verdict: ReportVerdict,
-    pub length: usize,
-}
+impl Numbered for ReportRefusal {
+    ghost number_of = { report_refusal_number };
 
-// What a collector finds of a reply: it is taken, or refused by the first of these names that applies (02, 2/12).
-#[derive(Clone, Copy)]
-pub enum PortionVerdict {
-    Taken,
-    NotReport,
-    OtherInterface,
-    OtherLength,
-    TotalDifferent,
-    TotalOver,
-}
-
-impl PortionVerdict {
-    // The C interface's number: 0 where the reply is taken.
-    pub fn number(self) -> u32
-        ensures { result ≡ portion_number self }
-    {
-        match self {
-            PortionVerdict::Taken => 0,
-            PortionVerdict::NotReport => 30,
-            PortionVerdict::OtherInterface => 31,
-            PortionVerdict::OtherLength => 32,
-            PortionVerdict::TotalDifferent => 33,
-            PortionVerdict::TotalOver => 34,
-        }
+    fn number(self) -> u32 {
+        self as u32
     }
 }
 
-// What the checks of a request find: an error's code and data, or the place of the record to serve.
+// Why a collector refuses a reply: the first of these names that applies (02, 2/12), by the C interface's numbers.
 #[derive(Clone, Copy)]
-pub enum Verdict {
-    Error(u32, u32),
-    Serve(usize),
+pub enum PortionRefusal {
+    NotReport = 30,
+    OtherInterface = 31,
+    OtherLength = 32,
+    TotalDifferent = 33,
+    TotalOver = 34,
+}
+
+impl Numbered for PortionRefusal {
+    ghost number_of = { portion_refusal_number };
+
+    fn number(self) -> u32 {
+        self as u32
+    }
+}
+
+// Why a request gets a TDISP_ERROR: an unlisted type is told.
+#[derive(Clone, Copy)]
+pub enum RequestError {
+    InvalidRequest,
+    InvalidInterfaceState,
+    UnsupportedRequest(u8),
+    VersionMismatch,
+    InvalidInterface,
+    InvalidNonce,
+    InsufficientEntropy,
+    InvalidDeviceConfiguration,
+}
+
+impl RequestError {
+    pub fn code(self) -> u32
+        ensures { result ≡ error_code self }
+    {
+        match self {
+            RequestError::InvalidRequest => 0x01,
+            RequestError::InvalidInterfaceState => 0x04,
+            RequestError::UnsupportedRequest(_) => 0x07,
+            RequestError::VersionMismatch => 0x41,
+            RequestError::InvalidInterface => 0x101,
+            RequestError::InvalidNonce => 0x102,
+            RequestError::InsufficientEntropy => 0x103,
+            RequestError::InvalidDeviceConfiguration => 0x104,
+        }
+    }
+
+    // The type that is unlisted; 0 beside any other code.
+    pub fn datum(self) -> u32
+        ensures { result ≡ error_datum self }
+    {
+        match self {
+            RequestError::UnsupportedRequest(kind) => kind.into(),
+            _ => 0,
+        }
+    }
 }
 
 // What a register write of a class may do: 01, "Changes".
@@ -169,103 +190,25 @@ pub enum Event {
 // Why a call is refused: the paper's numbers 1 to 7.
 #[derive(Clone, Copy)]
 pub enum Refusal {
-    TableLength,
-    TableRecord,
-    TableIdentities,
-    ReplyShort,
-    RequestShort,
-    Inputs,
-    Interface,
+    TableLength = 1,
+    TableRecord = 2,
+    TableIdentities = 3,
+    ReplyShort = 4,
+    RequestShort = 5,
+    Inputs = 6,
+    Interface = 7,
 }
 
-impl Refusal {
-    // The paper's number.
-    pub fn number(self) -> u32
-        ensures { result ≡ refusal_number self }
-    {
-        match self {
-            Refusal::TableLength => 1,
-            Refusal::TableRecord => 2,
-            Refusal::TableIdentities => 3,
-            Refusal::ReplyShort => 4,
-            Refusal::RequestShort => 5,
-            Refusal::Inputs => 6,
-            Refusal::Interface => 7,
-        }
+impl Numbered for Refusal {
+    ghost number_of = { refusal_number };
+
+    fn number(self) -> u32 {
+        self as u32
     }
 }
 
 // What a call returns: the reply's length, or how many records moved; or why it is refused.
-#[derive(Clone, Copy)]
-pub enum Answer {
-    Served(usize),
-    Refused(Refusal),
-}
+pub type Answer = Result<usize, Refusal>;
 
-impl Answer {
-    // The paper's number: 0 where it is served.
-    pub fn number(self) -> u32
-        ensures { result ≡ answer_number self }
-    {
-        match self {
-            Answer::Served(_) => 0,
-            Answer::Refused(why) => why.number(),
-        }
-    }
-
-    // The length or count: 0 beside a refusal.
-    pub fn value(self) -> usize
-        ensures { result ≡ answer_value self }
-    {
-        match self {
-            Answer::Served(n) => n,
-            Answer::Refused(_) => 0,
-        }
-    }
-}
-
-// What the firmware question returns: no beside a refusal.
-#[derive(Clone, Copy)]
-pub enum FirmwareAnswer {
-    Yes,
-    No,
-    Refused(Refusal),
-}
-
-impl FirmwareAnswer {
-    // The paper's number: 0 where it is served.
-    pub fn number(self) -> u32
-        ensures { result ≡ firmware_number self }
-    {
-        match self {
-            FirmwareAnswer::Yes => 0,
-            FirmwareAnswer::No => 0,
-            FirmwareAnswer::Refused(why) => why.number(),
-        }
-    }
-
-    // 1 for yes; no beside a refusal.
-    pub fn value(self) -> u32
-        ensures { result ≡ firmware_value self }
-    {
-        match self {
-            FirmwareAnswer::Yes => 1,
-            FirmwareAnswer::No => 0,
-            FirmwareAnswer::Refused(_) => 0,
-        }
-    }
-}
-
-// What a table alone decides.
-#[derive(Clone, Copy)]
-pub enum Judgement {
-    Accepted,
-    Refused(Refusal),
-}
-
-// What a lookup finds: a record's place, counted from 0, or none.
-#[derive(Clone, Copy)]
-pub enum Found {
-    At(usize),
-    Nothing,
-}
+// What the firmware question returns.
+pub type FirmwareAnswer = Result<bool, Refusal>;

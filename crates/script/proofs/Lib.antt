@@ -2,6 +2,4 @@
 pub mod Places
 pub mod Spelling
 pub mod HexBytes
-pub mod Lines
-pub mod Words
 pub mod Setting

@@ -1,64 +1,43 @@
--- A scan for a place: what is left from a place on answers for the whole. Assumes nothing.
-use mathlib.Core.Bool.{Bool, true, false, beq}
-use mathlib.Core.Path.{◌≡◌}
-use mathlib.Core.List.{List}
-use Prim.Native.Nat.{ℕ, suc, ◌+◌, ◌-◌, ◌≤◌, ◌<◌}
-use native.Mathlib.Numerals.{add-one}
-use native.Mathlib.Omega.{arith}
-use borrow.Author.Tests.{ne_eqb}
-use lib.ListN.{length, take, drop, get_or, length-take, length-drop, drop_of_length-le}
-use lib.Seq.{drop-cons, take_all}
-use Rattle.rules.specs.Bytes.{same_bytes}
-use Rattle.script.specs.Text.{is_space, space_is, before, First, trimmed, trim}
+-- The first place at which a test passes, as `position` finds it. Assumes nothing.
+use Rattle.std.proofs.Common.{◌≡◌, ℕ, zero, suc, ◌+◌, ◌-◌, ◌≤◌, ◌<◌, Bool, true, false, cond, List, length, get_or, arith, not, nat_lt, Some, None, add-zero, add-one, add-suc, ◌∙◌}
+use Rattle.std.proofs.lemmas.Bool.Decides.{nat_tests}
+use Rattle.std.specs.List.{position_or_len}
+use Rattle.std.specs.Prelude.{position, unwrap_or}
+use Rattle.std.proofs.lemmas.List.Sums.{prefix_len-le-length}
+use Rattle.script.specs.Text.{is_space, before, trimmed}
 
-module _ (p : ℕ → Bool) (s : List ℕ) (from i : ℕ) where
-  -- how far a scan has come
-  abbrev pub Scanned : Type 0
-  Scanned = (from ≤ i) × (i ≤ length s) × (from + before p (drop from s) ≡ i + before p (drop i s))
+-- the end, where it finds none
+pub before_is : (p : ℕ → Bool) (s : List ℕ) → before p s ≡ unwrap_or (position p s) (length s)
+unfolding before
+before_is p s = go (position_or_len p s) (length s) (prefix_len-le-length (λ x. not (p x)) s)
+  where
+    go : (n m : ℕ) → n ≤ m → n ≡ unwrap_or (cond (nat_lt n m) (Some n) None) m
+    go n m h = grind (arith, nat_tests)
 
-module _ (p : ℕ → Bool) (s : List ℕ) (from i : ℕ) (far : Scanned p s from i) where
-  module _ (inside : i < length s) where
-    pub here : p (get_or s i 0) ≡ true → First p s from i
-    unfolding before
-    here h =
-        let none : before p (drop i s) ≡ 0 = rw (drop-cons s i 0 inside) (rw h) in
-        record { is = omega arith; low = far.0; high = far.1 }
+-- ---- the spaces at a text's end
 
-    pub next : p (get_or s i 0) ≡ false → Scanned p s from (i + 1)
-    unfolding before
-    next h =
-        let one : before p (drop i s) ≡ suc (before p (drop (suc i) s)) = rw (drop-cons s i 0 inside) (rw h) in
-        (omega arith, omega arith, rw add-one (omega arith))
+-- from a place on there are spaces alone
+abbrev SpacesFrom : List ℕ → ℕ → Type 0
+SpacesFrom s n = (k : ℕ) → n ≤ k → k < length s → is_space (get_or s k 0) ≡ true
 
-  pub at_end : length s ≤ i → First p s from i
-  unfolding before
-  at_end h =
-      let none : before p (drop i s) ≡ 0 = rw (drop_of_length-le s h) in
-      record { is = omega arith; low = far.0; high = far.1 }
+trimmed_back : (s : List ℕ) (n m : ℕ) → n + m ≤ length s → SpacesFrom s n → trimmed s n ≡ trimmed s (n + m)
+unfolding trimmed
+trimmed_back s n zero h f = rw add-zero
+trimmed_back s n (suc m) h f =
+    let last : is_space (get_or s (n + m) 0) ≡ true = f (n + m) (omega arith) (omega arith) in
+    rw (add-suc, last) (trimmed_back s n m (omega arith) f)
 
--- whether a byte is a space, told of one
-pub told : (b space is : Bool) (c : ℕ) → b ≡ is_space c → beq b space ≡ is → space_is space c ≡ is
-told true true is c e h = rw (← e) h
-told true false is c e h = rw (← e) h
-told false true is c e h = rw (← e) h
-told false false is c e h = rw (← e) h
+trimmed_end : (s : List ℕ) (n : ℕ) → n ≤ length s → SpacesFrom s n → trimmed s n ≡ trimmed s (length s)
+trimmed_end s n h f =
+    let all : n + (length s - n) ≡ length s = omega arith in
+    rw all at (trimmed_back s n (length s - n) (omega arith) f)
 
--- ---- parts of a text
+pub trimmed_none : (s : List ℕ) → SpacesFrom s 0 → 0 ≡ trimmed s (length s)
+unfolding trimmed
+trimmed_none s f = trimmed_end s 0 (omega arith) f
 
--- the part from the start and the part to the end, as they are lent
-pub first_part : (s : List ℕ) (end : ℕ) → take (end - 0) (drop 0 s) ≡ take end s
-first_part s end = let all : end - 0 ≡ end = omega arith in rw all
-
-pub last_part : (s : List ℕ) (at : ℕ) → take (length s - at) (drop at s) ≡ drop at s
-last_part s at = take_all (length s - at) (drop at s) (omega (arith, length-drop at s))
-
-pub other_length : (word name : List ℕ) (end : ℕ) → end ≡ trimmed name (length name) → end ≤ length name → (length word ≡ end → ⊥)
-    → false ≡ same_bytes word (trim name)
-unfolding same_bytes
-other_length word name end e h n =
-    let long : length (trim name) ≡ end = rw (← e) (simp length-take (omega arith)) in
-    rw (long, ne_eqb _ _ n)
-
-pub same_trimmed : (word name : List ℕ) (end : ℕ) (b : Bool) → end ≡ trimmed name (length name)
-    → b ≡ same_bytes word (take (end - 0) (drop 0 name)) → b ≡ same_bytes word (trim name)
-same_trimmed word name end b e f = rw (← e) (rw (first_part name end) at f)
+pub trimmed_last : (s : List ℕ) (n : ℕ) → n < length s → is_space (get_or s n 0) ≡ false → SpacesFrom s (n + 1) → n + 1 ≡ trimmed s (length s)
+unfolding trimmed
+trimmed_last s n h e f =
+    let here : n + 1 ≡ trimmed s (n + 1) = rw (add-one, e) in
+    here ∙ trimmed_end s (n + 1) (omega arith) f

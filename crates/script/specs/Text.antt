@@ -1,5 +1,6 @@
 -- Places in a text. A text is a list of bytes. Assumes nothing.
-use Rattle.std.specs.Prelude.{Bool, true, false, not, ◌||◌, List, [], ◌∷◌, ◌≡◌, ℕ, zero, suc, ◌+◌, ◌≤◌, eqb, length, take, drop, get_or, if◌then◌else◌}
+use Rattle.std.specs.Prelude.{Bool, not, ◌||◌, List, [], ◌∷◌, ◌≡◌, ℕ, zero, suc, ◌+◌, ◌≤◌, eqb, length, take, drop, get_or, if◌then◌else◌}
+use Rattle.std.specs.List.{position_or_len}
 use Prim.Native.Char.{code}
 use Prim.Native.String.{String, [] as none, ◌∷◌ as ◌then◌}
 
@@ -15,21 +16,27 @@ is_space c = eqb c 32 || eqb c 9 || eqb c 13
 abbrev pub is_no_space : ℕ → Bool
 is_no_space c = not (is_space c)
 
--- the one or the other
-abbrev pub space_is : Bool → ℕ → Bool
-space_is true = is_space
-space_is false = is_no_space
-
 -- how many bytes stand before the first of which p holds
 unfoldable pub before : (ℕ → Bool) → List ℕ → ℕ
-before p [] = 0
-before p (c ∷ s) = if p c then 0 else suc (before p s)
+before p s = position_or_len p s
 
 -- the first place from a place on at which p holds; the end where there is none
 pub record First (p : ℕ → Bool) (s : List ℕ) (from r : ℕ) : Type 0 where
   pub is : r ≡ from + before p (drop from s)
   pub low : from ≤ r
   pub high : r ≤ length s
+
+-- a text from its first byte on that is no space
+abbrev pub without_space : List ℕ → List ℕ
+without_space s = drop (before is_no_space s) s
+
+-- the word that a text begins with, up to the first space
+abbrev pub first_word : List ℕ → List ℕ
+first_word s = take (before is_space s) s
+
+-- what follows that word and the spaces after it
+abbrev pub after_word : List ℕ → List ℕ
+after_word s = without_space (drop (before is_space s) s)
 
 -- the length of the first n bytes without the spaces at their end
 unfoldable pub trimmed : List ℕ → ℕ → ℕ

@@ -1,8 +1,8 @@
 // Numbers and bytes that a text spells.
-ghost use Rattle.std.specs.Prelude.{◌≡◌, ◌≤◌};
-ghost use Rattle.script.specs.Digits.{digit_of, spelled, pair_of, hex_bytes, Puts, Within};
+ghost use Rattle.std.specs.Prelude.{◌≡◌, ◌<◌, ◌≤◌, IfOk, IfSome};
+ghost use Rattle.script.specs.Digits.{digit_of, spelled, pair_of, hex_bytes};
 
-use crate::text::first;
+use crate::text::is_space;
 
 // What is wrong with a line.
 #[derive(Clone, Copy)]
@@ -18,96 +18,68 @@ pub enum Wrong {
     Long,
 }
 
-// A number, or what is wrong.
-#[derive(Clone, Copy)]
-pub(crate) enum Number {
-    Is(usize),
-    Bad(Wrong),
-}
-
-// What a hex digit is worth; 16 for any other byte.
-fn digit(c: u8) -> usize
-    ensures { (result ≡ digit_of c) × (result ≤ 16) }
+// What a hex digit is worth; nothing, where a byte is none.
+#[tactic(auto, using(crate::proofs::Spelling::digit_is), unfolding(crate::specs::Digits::digit_of))]
+fn digit(c: u8) -> Option<usize>
+    ensures value { result ≡ digit_of c }
+    ensures within { IfSome result (λ d. d < 16) }
 {
-    let x = c as usize;
-    if x < 48 {
-        return 16;
-    }
-    if x < 58 {
-        return x - 48;
-    }
-    if x < 65 {
-        return 16;
-    }
-    if x < 71 {
-        return x - 55;
-    }
-    if x < 97 {
-        return 16;
-    }
-    if x < 103 {
-        return x - 87;
-    }
-    16
+    char::from(c).to_digit(16).map(|d| d as usize)
 }
 
 // A number in digits of a base, at most a most; `wrong` says that a byte is no such digit.
-pub(crate) fn spelled(s: &[u8], base: usize, most: usize, wrong: Wrong) -> Number
-    requires { (base ≤ 16) × (most ≤ 4294967295) }
-    ensures { (result ≡ spelled base most wrong 0 s.now) × Within most result }
+#[tactic(auto, using(crate::proofs::Spelling::spelled_more, crate::proofs::Spelling::spelled_all))]
+pub(crate) fn spelled(s: &[u8], base: usize, most: usize, wrong: Wrong) -> Result<usize, Wrong>
+    requires base { base ≤ 16 }
+    requires most { most ≤ 4294967295 }
+    ensures value { result ≡ spelled base most wrong 0 s.now }
+    ensures within { IfOk result (λ n. n ≤ most) }
 {
     let mut value = 0;
-    let mut i = 0;
-    while i < s.len() {
-        let d = digit(s[i]);
-        if d >= base {
-            return Number::Bad(wrong);
-        }
+    for c in s {
+        let d = digit(*c).filter(|d| *d < base).ok_or(wrong)?;
         value = value * base + d;
         if value > most {
-            return Number::Bad(Wrong::Large);
+            return Err(Wrong::Large);
         }
-        i += 1;
     }
-    Number::Is(value)
+    Ok(value)
 }
 
-// Two hex digits as a byte: below 256, or 256 where one of them is none.
-fn pair(high: u8, low: u8) -> usize
-    ensures { (result ≡ pair_of high low) × (result ≤ 256) }
+// Two hex digits as a byte; nothing, where one of them is none.
+#[tactic(auto, unfolding(crate::specs::Digits::pair_of))]
+fn pair(high: u8, low: u8) -> Option<u8>
+    ensures { result ≡ pair_of high low }
 {
-    let h = digit(high);
-    let l = digit(low);
-    if h >= 16 {
-        return 256;
-    }
-    if l >= 16 {
-        return 256;
-    }
-    h * 16 + l
+    let high = digit(high)?;
+    let low = digit(low)?;
+    Some((high * 16 + low) as u8)
 }
 
 // Bytes of two hex digits each, spaces between them or not: put at the front of `out`, and their number.
-pub(crate) fn hex_bytes(s: &[u8], out: &mut [u8; 512]) -> Number
-    ensures { Puts (hex_bytes s.now out.old) result out.new }
+#[tactic(auto, unfolding(crate::specs::Digits::hexed))]
+pub(crate) fn hex_bytes(s: &[u8], out: &mut [u8; 512]) -> Result<usize, Wrong>
+    ensures number { result ≡ (hex_bytes s.now out.old).number }
+    ensures out { out.new ≡ (hex_bytes s.now out.old).out }
 {
-    let mut n: usize = 0;
-    let mut i = 0;
-    while i < s.len() {
-        let at = first(s, i, false);
-        if s.len() - at < 2 {
-            return Number::Bad(Wrong::Odd);
+    let mut n = 0;
+    // A step is one byte or two, so it is no iterator's.
+    let mut rest = s;
+    while let [high, after @ ..] = rest {
+        let [low, later @ ..] = after else {
+            return Err(Wrong::Odd);
+        };
+        if is_space(*high) {
+            rest = after;
+            continue;
         }
-        let byte = pair(s[at], s[at + 1]);
-        if byte > 255 {
-            return Number::Bad(Wrong::HexDigit);
+        let byte = pair(*high, *low).ok_or(Wrong::HexDigit)?;
+        if n >= out.len() {
+            return Err(Wrong::Long);
         }
-        if n >= 512 {
-            return Number::Bad(Wrong::Long);
-        }
-        out[n] = byte as u8;
+        out[n] = byte;
         n += 1;
-        i = at + 2;
+        rest = later;
     }
-    Number::Is(n)
+    Ok(n)
 }

@@ -1,9 +1,8 @@
 // What the calls to come are given beside the request and the table.
-ghost use Rattle.std.specs.Prelude.{◌≡◌, ◌≤◌, length, take};
-ghost use Rattle.script.specs.Settings.{at_start, set_by};
+ghost use Rattle.std.specs.Prelude.{◌≡◌};
+ghost use Rattle.script.specs.Settings.{at_start, set_by, zeros, front, given};
 
 use rules::Session;
-use wire::copy::copy_over;
 
 // The longest request and the longest reply buffer.
 pub const MOST_MESSAGE: usize = 512;
@@ -11,19 +10,52 @@ pub const MOST_MESSAGE: usize = 512;
 // The most nonce bytes and stream map bytes; 32 is what a call wants.
 pub const MOST_INPUT: usize = 64;
 
+// Bytes that are set, so many at the front: there is no heap for a Vec.
+#[derive(Clone, Copy)]
+pub struct Input {
+    pub bytes: [u8; MOST_INPUT],
+    pub count: usize,
+}
+
+impl Input {
+    // Zeros, so many.
+    fn zeros(count: usize) -> Input
+        ensures { result ≡ zeros count }
+    {
+        Input {
+            bytes: [0; MOST_INPUT],
+            count,
+        }
+    }
+
+    // The front of a line's bytes.
+    fn front(bytes: &[u8; MOST_MESSAGE], count: usize) -> Input
+        ensures { result ≡ front bytes.now count }
+    {
+        let mut kept = [0; MOST_INPUT];
+        kept.copy_from_slice(&bytes[..MOST_INPUT]);
+        Input { bytes: kept, count }
+    }
+
+    // The bytes that are set.
+    pub fn given(&self) -> &[u8]
+        ensures { result.now ≡ given self.now }
+    {
+        &self.bytes[..self.count.min(MOST_INPUT)]
+    }
+}
+
 // The nonce bytes and the ready mark, the stream map, the session, the reply buffer's length.
 #[derive(Clone, Copy)]
 pub struct Settings {
-    pub nonce: [u8; MOST_INPUT],
-    pub nonce_bytes: usize,
+    pub nonce: Input,
     pub ready: bool,
-    pub streams: [u8; MOST_INPUT],
-    pub stream_bytes: usize,
+    pub streams: Input,
     pub session: Session,
     pub reply_bytes: usize,
 }
 
-// What a setting line sets: the bytes stand beside it, and their number in it.
+// What a setting line sets: the bytes stand beside it, and their number in it, as in a call.
 #[derive(Clone, Copy)]
 pub enum Setting {
     Nonce(usize),
@@ -38,58 +70,35 @@ pub fn start() -> Settings
     ensures { result ≡ at_start }
 {
     Settings {
-        nonce: [0u8; MOST_INPUT],
-        nonce_bytes: 32,
+        nonce: Input::zeros(32),
         ready: false,
-        streams: [0u8; MOST_INPUT],
-        stream_bytes: 32,
+        streams: Input::zeros(32),
         session: Session(0),
         reply_bytes: 256,
     }
-}
-
-// The first of a line's bytes.
-fn held(bytes: &[u8]) -> [u8; MOST_INPUT]
-    requires { 64 ≤ length bytes.now }
-    ensures { result ≡ take 64 bytes.now }
-{
-    let mut kept = [0u8; MOST_INPUT];
-    let first = 0;
-    let end = MOST_INPUT;
-    copy_over(&mut kept, 0, &bytes[first..end]);
-    kept
 }
 
 // The settings with one of them set.
 pub fn set(setting: Setting, bytes: &[u8; 512], old: Settings) -> Settings
     ensures { result ≡ set_by setting bytes.now old }
 {
-    let mut s = old;
     match setting {
-        Setting::Nonce(n) => {
-            let kept = held(bytes);
-            s.nonce = kept;
-            s.nonce_bytes = n;
-            s
-        }
-        Setting::Ready(yes) => {
-            s.ready = yes;
-            s
-        }
-        Setting::Streams(n) => {
-            let kept = held(bytes);
-            s.streams = kept;
-            s.stream_bytes = n;
-            s
-        }
-        Setting::Session(n) => {
-            let session = Session(n);
-            s.session = session;
-            s
-        }
-        Setting::ReplyLength(n) => {
-            s.reply_bytes = n;
-            s
-        }
+        Setting::Nonce(n) => Settings {
+            nonce: Input::front(bytes, n),
+            ..old
+        },
+        Setting::Ready(ready) => Settings { ready, ..old },
+        Setting::Streams(n) => Settings {
+            streams: Input::front(bytes, n),
+            ..old
+        },
+        Setting::Session(n) => Settings {
+            session: Session(n),
+            ..old
+        },
+        Setting::ReplyLength(n) => Settings {
+            reply_bytes: n,
+            ..old
+        },
     }
 }

@@ -1,78 +1,55 @@
 // Places in a text: ends of lines and words.
-ghost use Rattle.std.specs.Prelude.{◌≡◌, ◌≤◌, eqb, length};
-ghost use Rattle.rules.specs.Bytes.{same_bytes};
-ghost use Rattle.script.specs.Text.{is_space, space_is, First, trimmed, trim};
-
-use wire::same::same_bytes;
+ghost use Rattle.std.specs.Prelude.{◌≡◌, ◌≤◌, Bool, ℕ, eqb, length};
+ghost use Rattle.script.specs.Text.{is_space, before, first_word, after_word, without_space, First, trimmed};
 
 // A space, a tab, or the carriage return of a line that ends in two bytes.
-fn is_space(c: u8) -> bool
+pub(crate) fn is_space(c: u8) -> bool
     ensures { result ≡ is_space c }
 {
-    (c == 32) | (c == 9) | (c == 13)
+    matches!(c, b' ' | b'\t' | b'\r')
 }
 
-// The first place of a byte, from a place on; the end where there is none.
+// How many bytes stand before the first of which a test holds.
+fn count_before<F: Fn(u8) -> bool>(s: &[u8], test: F) -> usize
+    requires { F.IsAlwaysCallable test }
+    ensures count { (p : ℕ → Bool) → ((c : ℕ) (yes : Bool) → F.post test c yes → yes ≡ p c) → result ≡ before p s.now }
+    ensures within { result ≤ length s.now }
+{
+    s.iter().position(|c| test(*c)).unwrap_or(s.len())
+}
+
+// The first place of a byte, from a place on; the end where there is none, up to which its callers cut.
 pub fn find(s: &[u8], from: usize, byte: u8) -> usize
     requires { from ≤ length s.now }
     ensures { First (λ c. eqb c byte) s.now from result }
 {
-    let mut i = from;
-    while i < s.len() {
-        if s[i] == byte {
-            return i;
-        }
-        i += 1;
-    }
-    i
+    from + count_before(&s[from..], |c| c == byte)
 }
 
-// The first place that is a space, or the first that is none, from a place on; the end where there is none.
-pub(crate) fn first(s: &[u8], from: usize, space: bool) -> usize
-    requires { from ≤ length s.now }
-    ensures { First (space_is space) s.now from result }
+// The text from its first byte on that is no space.
+pub(crate) fn without_space(s: &[u8]) -> &[u8]
+    ensures { result.now ≡ without_space s.now }
 {
-    let mut i = from;
-    while i < s.len() {
-        if is_space(s[i]) == space {
-            return i;
-        }
-        i += 1;
-    }
-    i
+    let n = count_before(s, |c| !is_space(c));
+    &s[n..]
+}
+
+// The word that a text begins with, up to the first space, and what follows it.
+pub(crate) fn split_word(s: &[u8]) -> (&[u8], &[u8])
+    ensures word { result.0.now ≡ first_word s.now }
+    ensures rest { result.1.now ≡ after_word s.now }
+{
+    let n = count_before(s, is_space);
+    (&s[..n], without_space(&s[n..]))
 }
 
 // The length without the spaces at the end.
 pub fn trimmed(s: &[u8]) -> usize
-    ensures { (result ≡ trimmed s.now (length s.now)) × (result ≤ length s.now) }
+    ensures value { result ≡ trimmed s.now (length s.now) }
+    ensures within { result ≤ length s.now }
 {
-    let mut n = s.len();
-    while n > 0 {
-        let last = n - 1;
-        if !is_space(s[last]) {
-            return n;
-        }
-        n = last;
+    match s.iter().rposition(|c| !is_space(*c)) {
+        Some(n) => n + 1,
+        None => 0,
     }
-    n
-}
-
-// Whether a word is this one, without the spaces after it.
-fn is_trimmed(word: &[u8], name: &[u8]) -> bool
-    ensures { result ≡ same_bytes word.now (trim name.now) }
-{
-    let start = 0;
-    let end = trimmed(name);
-    if word.len() != end {
-        return false;
-    }
-    same_bytes(word, &name[start..end])
-}
-
-// Whether a word is this one. The name comes by value: a literal for each name would make its callers' proofs long.
-pub(crate) fn is(word: &[u8], name: [u8; 14]) -> bool
-    ensures { result ≡ same_bytes word.now (trim name) }
-{
-    let text = name;
-    is_trimmed(word, &text)
 }

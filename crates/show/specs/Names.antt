@@ -1,17 +1,12 @@
 -- The names that are printed. Those of states, requests, replies and error codes are 001's, those of a collector's refusals 02's. Assumes nothing.
-use Rattle.std.specs.Prelude.{List, ◌++◌, ℕ, eqb, take, replicate, if◌then◌else◌}
+use Rattle.std.specs.Prelude.{ℕ, eqb, Result, Ok, Err, if◌then◌else◌}
 use Prim.Native.String.{String}
-use Rattle.rules.specs.declared.PortionVerdict.{PortionVerdict}
+use Rattle.rules.specs.declared.PortionRefusal.{PortionRefusal}
 use Rattle.rules.specs.declared.Refusal.{Refusal}
-use Rattle.script.specs.Text.{ascii}
 use Rattle.script.specs.declared.digits.Wrong.{Wrong}
 
--- a name's 32 bytes: the text, then spaces
-abbrev pub name_bytes : String → List ℕ
-name_bytes s = take 32 (ascii s ++ replicate 32 32)
-
 -- a state's
-unfoldable pub state_name : ℕ → String
+abbrev pub state_name : ℕ → String
 state_name x =
     if eqb x 0 then "CONFIG_UNLOCKED"
     else if eqb x 1 then "CONFIG_LOCKED"
@@ -20,7 +15,7 @@ state_name x =
     else "no state:"
 
 -- a request's, by its type
-unfoldable pub request_name : ℕ → String
+abbrev pub request_name : ℕ → String
 request_name x =
     if eqb x 0x81 then "GET_TDISP_VERSION"
     else if eqb x 0x82 then "GET_TDISP_CAPABILITIES"
@@ -32,7 +27,7 @@ request_name x =
     else "of an unlisted type"
 
 -- a reply's, by its type
-unfoldable pub reply_name : ℕ → String
+abbrev pub reply_name : ℕ → String
 reply_name x =
     if eqb x 0x01 then "TDISP_VERSION"
     else if eqb x 0x02 then "TDISP_CAPABILITIES"
@@ -44,7 +39,7 @@ reply_name x =
     else "TDISP_ERROR"
 
 -- an error code's
-unfoldable pub error_name : ℕ → String
+abbrev pub error_name : ℕ → String
 error_name x =
     if eqb x 0x01 then "INVALID_REQUEST"
     else if eqb x 0x04 then "INVALID_INTERFACE_STATE"
@@ -66,13 +61,16 @@ refusal_name Refusal.Inputs = "stream map or nonce not 32 bytes"
 refusal_name Refusal.Interface = "no record's interface"
 
 -- what a collector finds of a reply
-abbrev pub portion_name : PortionVerdict → String
-portion_name PortionVerdict.Taken = "taken"
-portion_name PortionVerdict.NotReport = "not a report reply"
-portion_name PortionVerdict.OtherInterface = "other interface"
-portion_name PortionVerdict.OtherLength = "length not as the portion says"
-portion_name PortionVerdict.TotalDifferent = "total different from before"
-portion_name PortionVerdict.TotalOver = "total over 200"
+abbrev pub untaken_name : PortionRefusal → String
+untaken_name PortionRefusal.NotReport = "not a report reply"
+untaken_name PortionRefusal.OtherInterface = "other interface"
+untaken_name PortionRefusal.OtherLength = "length not as the portion says"
+untaken_name PortionRefusal.TotalDifferent = "total different from before"
+untaken_name PortionRefusal.TotalOver = "total over 200"
+
+abbrev pub portion_name : Result Unit PortionRefusal → String
+portion_name (Ok taken) = "taken"
+portion_name (Err why) = untaken_name why
 
 -- what is wrong with a line
 abbrev pub wrong_name : Wrong → String

@@ -1,71 +1,72 @@
 // A report's fields, as the report reader hands them back, each beside its bytes.
-ghost use Rattle.std.specs.Prelude.{◌≡◌, ◌<◌, ◌≤◌, min};
+ghost use Rattle.std.specs.Prelude.{◌≡◌, ◌≤◌, min};
 ghost use Rattle.rules.specs.Range.{most_ranges};
 
-use crate::field::{field, numeral, value};
-use crate::say::{decimal, say};
+use crate::field::{field, part};
+use crate::form::{Hex, Number};
 use rules::place::RANGE_BYTES;
 use rules::report::{COUNT, LNR, MSIX, RANGES, TPH, UNUSED};
 use rules::{Range, ReportFields};
-use wire::copy::least;
+
+// A field that is a number: its bytes, and the number in so many digits.
+fn number<R: Print>(rt: &R, title: &str, bytes: &[u8], x: impl Into<u64>, digits: usize) {
+    let bytes = Hex(bytes);
+    let number = Number {
+        number: x.into(),
+        digits,
+    };
+    let _ = println!(rt; "    {title}, low byte first:{bytes} = {number}");
+}
 
 // What stands before the ranges.
-fn head(f: ReportFields, s: &[u8]) {
-    numeral(b"INTERFACE_INFO", s, 0, 2, f.info as u64);
-    field(b"reserved", s, UNUSED, MSIX);
-    numeral(b"MSI_X_MESSAGE_CONTROL", s, MSIX, 2, f.msix as u64);
-    numeral(b"LNR_CONTROL", s, LNR, 2, f.lnr as u64);
-    numeral(b"TPH_CONTROL", s, TPH, 4, f.tph as u64);
-    numeral(b"MMIO_RANGE_COUNT", s, COUNT, 4, f.n as u64);
+fn head<R: Print>(rt: &R, f: &ReportFields, s: &[u8]) {
+    number(rt, "INTERFACE_INFO", part(s, 0..UNUSED), f.info, 4);
+    field(rt, "reserved", s, UNUSED..MSIX);
+    number(rt, "MSI_X_MESSAGE_CONTROL", part(s, MSIX..LNR), f.msix, 4);
+    number(rt, "LNR_CONTROL", part(s, LNR..TPH), f.lnr, 4);
+    number(rt, "TPH_CONTROL", part(s, TPH..COUNT), f.tph, 8);
+    number(rt, "MMIO_RANGE_COUNT", part(s, COUNT..RANGES), f.n, 8);
 }
 
-// Range k: first page, pages, attributes, range ID.
-fn range(k: usize, x: Range, s: &[u8])
-    requires { k < most_ranges }
-{
-    let at = RANGES + k * RANGE_BYTES;
-    say(b"    MMIO_RANGE ");
-    decimal(k as u64);
-    say(b", low byte first: first page");
-    value(s, at, 8, x.first);
-    say(b", pages");
-    value(s, at + 8, 4, x.pages as u64);
-    say(b", attributes");
-    value(s, at + 12, 2, x.attributes as u64);
-    say(b", range ID");
-    value(s, at + 14, 2, x.id as u64);
-    say(b"\n");
+// Range k, and its 16 bytes: first page, pages, attributes, range ID.
+fn range<R: Print>(rt: &R, k: usize, x: &Range, s: &[u8]) {
+    let first = Hex(part(s, 0..8));
+    let pages = Hex(part(s, 8..12));
+    let attributes = Hex(part(s, 12..14));
+    let id = Hex(part(s, 14..16));
+    let _ = print!(rt;
+        "    MMIO_RANGE {k}, low byte first: first page{first} = {:016x}h",
+        x.first
+    );
+    let _ = print!(rt; ", pages{pages} = {:08x}h", x.pages);
+    let _ = print!(rt; ", attributes{attributes} = {:04x}h", x.attributes);
+    let _ = println!(rt; ", range ID{id} = {:04x}h", x.id);
 }
 
-// The first n ranges.
-fn all_ranges(ranges: [Range; 8], n: usize, s: &[u8])
-    requires { n ≤ most_ranges }
-{
-    let mut k = 0;
-    while k < n {
-        let x = ranges[k];
-        range(k, x, s);
-        k += 1;
+// The ranges that there are.
+fn all_ranges<R: Print>(rt: &R, ranges: &[Range], s: &[u8]) {
+    for (k, x) in ranges.iter().enumerate() {
+        let at = RANGES + k * RANGE_BYTES;
+        range(rt, k, x, part(s, at..at + RANGE_BYTES));
     }
 }
 
 // What stands behind n ranges.
-fn information(n: usize, l: u32, s: &[u8])
+fn information<R: Print>(rt: &R, n: usize, l: u32, s: &[u8])
     requires { n ≤ most_ranges }
 {
     let at = RANGES + n * RANGE_BYTES;
-    numeral(b"DEVICE_SPECIFIC_INFO_LEN", s, at, 4, l as u64);
-    field(b"DEVICE_SPECIFIC_INFO", s, at + 4, s.len());
+    number(rt, "DEVICE_SPECIFIC_INFO_LEN", part(s, at..at + 4), l, 8);
+    field(rt, "DEVICE_SPECIFIC_INFO", s, at + 4..s.len());
 }
 
 // The fields of a report of these bytes; how many ranges.
-pub fn show(f: ReportFields, s: &[u8]) -> usize
+pub fn show<R: Print>(rt: &R, f: ReportFields, s: &[u8]) -> usize
     ensures { result ≡ min f.n most_ranges }
 {
-    let n = least(f.n as usize, 8);
-    let ranges = f.ranges;
-    head(f, s);
-    all_ranges(ranges, n, s);
-    information(n, f.l, s);
+    let n = f.ranges.len().min(f.n as usize);
+    head(rt, &f, s);
+    all_ranges(rt, &f.ranges[..n], s);
+    information(rt, n, f.l, s);
     n
 }

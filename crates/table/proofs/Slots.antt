@@ -1,28 +1,20 @@
 -- Interfaces marked in slots: one whose slot is not marked is none of those met. Assumes nothing.
-use Rattle.std.specs.Prelude.{if◌then◌else◌}
-use mathlib.Core.Path.{◌≡◌, refl, sym, ap, ◌∙◌}
-use mathlib.Core.Bool.{Bool, true, false, not, ◌&&◌, ◌||◌}
-use mathlib.Core.List.{List, [], ◌∷◌}
-use Prim.Native.Nat.{ℕ, zero, suc, ◌+◌, ◌-◌, ◌/◌, ◌%◌, ◌≤◌, ◌<◌}
-use native.Mathlib.Nat.{le_refl, le_of_suc-le-suc, not-suc-le-zero}
-use native.Mathlib.Omega.{arith}
-use borrow.Author.Tests.{eqb-true, not-true, not-false}
-use lib.Dec.{eqb}
-use lib.ListN.{length, drop, get_or, set, length-set}
-use Rattle.rules.specs.Identity.{same}
+use Rattle.std.proofs.Common.{◌≡◌, refl, sym, ap, ◌∙◌, Bool, true, false, not, List, [], ◌∷◌, ℕ, zero, suc, ◌+◌, ◌%◌, ◌<◌, eqb, length, drop, get_or, set, take, ◌-◌, add-one, arith, drop-cons}
+use Rattle.std.proofs.lemmas.List.{take_rest}
+use native.Mathlib.Nat.{le_of_suc-le-suc, not-suc-le-zero, le_refl}
+use borrow.Author.Tests.{eqb-true}
+use lib.ListN.{drop_of_length-le, length-set}
+use Rattle.rules.specs.Identity.{same, same_segment}
 use Rattle.rules.specs.Record.{Rec}
-use Rattle.rules.specs.Table.{record_bytes, records, record_at, all, identity, names, names_not, distinct}
+use Rattle.rules.specs.Table.{all, identity, names, names_not, distinct}
 use Rattle.rules.specs.declared.Identity.{Identity}
 use Rattle.rules.proofs.Bools.{clash, and_left, and_right}
-use Rattle.rules.proofs.Records.{records_from, records_end}
 use Rattle.table.specs.Slots.{slot, marked}
 
 -- one interface, one slot
 same_slot : (a b : Identity) → same a b ≡ true → slot a ≡ slot b
 unfolding same
-same_slot a b e =
-    let low = eqb a.requester.0 b.requester.0 in
-    ap (λ (x : ℕ). x % 1024) (eqb-true a.requester.0 b.requester.0 (and_left low (if a.valid then b.valid && eqb a.segment b.segment else not b.valid) e))
+same_slot a b e = ap (λ (x : ℕ). x % 1024) (eqb-true a.requester.0 b.requester.0 (and_left (eqb a.requester.0 b.requester.0) (same_segment a.segment b.segment) e))
 
 -- ---- an interface whose slot is not marked
 
@@ -48,9 +40,6 @@ set_here [] s h = absurd (not-suc-le-zero h)
 set_here (m ∷ marks) zero h = refl
 set_here (m ∷ marks) (suc s) h = set_here marks s (le_of_suc-le-suc h)
 
-pub length_marks : (marks : List Bool) (s : ℕ) (b : Bool) → length marks ≡ 1024 → length (set marks s b) ≡ 1024
-length_marks marks s b e = length-set marks s b ∙ e
-
 set_keeps : (marks : List Bool) (s i : ℕ) → get_or marks i false ≡ true → get_or (set marks s true) i false ≡ true
 set_keeps [] s i e = e
 set_keeps (m ∷ marks) zero zero e = refl
@@ -65,7 +54,7 @@ still_marked marks s (r ∷ rs) e =
     let here = get_or marks (slot (identity r)) false in
     rw (set_keeps marks s (slot (identity r)) (and_left here (marked marks rs) e)) (still_marked marks s rs (and_right here (marked marks rs) e))
 
--- ---- a loop from the last record to the first: b, no record after record k is for its interface
+-- ---- from the last record to the first
 
 distinct_drop : (k : ℕ) (rs : List Rec) → distinct rs ≡ true → distinct (drop k rs) ≡ true
 unfolding distinct
@@ -73,63 +62,55 @@ distinct_drop zero rs e = e
 distinct_drop (suc k) [] e = e
 distinct_drop (suc k) (r ∷ rs) e = distinct_drop k rs (and_right (all (names_not (identity r)) rs) (distinct rs) e)
 
-module _ (t : List ℕ) where
-  abbrev fresh : ℕ → Bool
-  fresh k = all (names_not (identity (record_at t k))) (drop (k + 1) (records t))
+module _ (rs : List Rec) where
+  -- the records from k on differ, and their slots are marked
+  pub record Met (marks : List Bool) (k : ℕ) : Type 0 where
+    pub differ : distinct (drop k rs) ≡ true
+    pub slots : marked marks (drop k rs) ≡ true
+    pub enough : length marks ≡ 1024
 
-  -- before the first step
-  pub none_met : true ≡ distinct (drop (length t / record_bytes) (records t))
-  unfolding distinct
-  none_met = sym (rw (records_end t (length t / record_bytes) (le_refl _)))
+  pub none_met : (marks : List Bool) → length marks ≡ 1024 → Met marks (length rs)
+  unfolding distinct marked all
+  none_met marks l = let none : drop (length rs) rs ≡ [] = drop_of_length-le rs (le_refl _) in record { differ = rw none; slots = rw none; enough = l }
 
-  pub none_marked : (marks : List Bool) → true ≡ marked marks (drop (length t / record_bytes) (records t))
-  unfolding marked all
-  none_marked marks = sym (rw (records_end t (length t / record_bytes) (le_refl _)))
+  -- record k is for `who`, whose slot is s, and those past it are met
+  module _ (marks : List Bool) (k next s : ℕ) (who : Identity) (met : Met marks next) (here : who ≡ identity (get_or rs k [])) (its : s ≡ slot who) (after : next ≡ k + 1) (within : k < length rs) where
+    from_here : drop k rs ≡ get_or rs k [] ∷ drop (k + 1) rs
+    from_here = rw (drop-cons rs k [], add-one)
 
-  -- after the last
-  pub all_differ : (k : ℕ) → k ≤ 0 → true ≡ distinct (drop k (records t)) → true ≡ distinct (records t)
-  all_differ zero l d = d
-  all_differ (suc k) l d = absurd (not-suc-le-zero l)
+    its_own : s ≡ slot (identity (get_or rs k []))
+    its_own = its ∙ ap slot here
 
-  -- a step from `next` to the record before it
-  module _ (next : ℕ) (some : 0 < next) (within : next ≤ length t / record_bytes) where
-    abbrev k : ℕ
-    k = next - 1
+    slots_after : marked marks (drop (k + 1) rs) ≡ true
+    slots_after = ap (λ (i : ℕ). marked marks (drop i rs)) (sym after) ∙ met.slots
 
-    after : next ≡ k + 1
-    after = omega arith
+    fresh : all (names_not who) (drop (k + 1) rs) ≡ true → s < 1024 → Met (set marks s true) k
+    unfolding distinct marked all
+    fresh e l = record {
+      differ = rw (from_here, ← here, e) (ap (λ (i : ℕ). distinct (drop i rs)) (sym after) ∙ met.differ);
+      slots = rw (from_here, ← its_own, set_here marks s (omega (arith, met.enough))) (still_marked marks s (drop (k + 1) rs) slots_after);
+      enough = length-set marks s true ∙ met.enough;
+    }
 
-    here : k < length t / record_bytes
-    here = omega arith
+    -- a slot that is not marked is enough,
+    pub unmarked : get_or marks s false ≡ false → s < 1024 → Met (set marks s true) k
+    unmarked e l = fresh (none_of_them who marks (ap (λ (i : ℕ). get_or marks i false) (sym its) ∙ e) (drop (k + 1) rs) slots_after) l
 
-    module _ (s : ℕ) (marks : List Bool) (its : s ≡ slot (identity (record_at t k))) (met : true ≡ marked marks (drop next (records t))) where
-      met_after : marked marks (drop (k + 1) (records t)) ≡ true
-      met_after = ap (λ (i : ℕ). marked marks (drop i (records t))) (sym after) ∙ sym met
+    -- where it is marked, it is looked up: b tells whether no later record is for that interface
+    module _ (b : Bool) (told : b ≡ all (names_not who) (take (length rs - (k + 1)) (drop (k + 1) rs))) where
+      later : all (names_not who) (drop (k + 1) rs) ≡ b
+      later = sym (told ∙ ap (all (names_not who)) (take_rest rs (k + 1)))
 
-      -- a slot that is not marked is enough,
-      pub sure : get_or marks s false || fresh k ≡ true
-      sure = by (get_or marks s false) refl
+      pub looked_up : b ≡ true → s < 1024 → Met (set marks s true) k
+      looked_up e l = fresh (later ∙ e) l
+
+      pub alike : b ≡ false → false ≡ distinct rs
+      unfolding distinct
+      alike e = by (distinct rs) refl
         where
-          by : (b : Bool) → get_or marks s false ≡ b → b || fresh k ≡ true
-          by true e = refl
-          by false e = none_of_them (identity (record_at t k)) marks (ap (λ (i : ℕ). get_or marks i false) (sym its) ∙ e) (drop (k + 1) (records t)) met_after
+          stopped : distinct (drop k rs) ≡ false
+          stopped = rw (from_here, ← here, later, e)
 
-      -- and then it is marked
-      pub one_more_marked : s < 1024 → length marks ≡ 1024 → true ≡ marked (set marks s true) (drop k (records t))
-      unfolding marked all
-      one_more_marked l e = sym (rw (records_from t k here, ← its, set_here marks s (omega arith)) (still_marked marks s (drop (k + 1) (records t)) met_after))
-
-    pub one_more_differs : {b : Bool} → b ≡ fresh k → not b ≡ false → true ≡ distinct (drop next (records t)) → true ≡ distinct (drop k (records t))
-    unfolding distinct
-    one_more_differs {b} told e d = sym (rw (records_from t k here, ← told, not-false b e) (ap (λ (i : ℕ). distinct (drop i (records t))) (sym after) ∙ sym d))
-
-    pub alike : {b : Bool} → b ≡ fresh k → not b ≡ true → false ≡ distinct (records t)
-    unfolding distinct
-    alike {b} told e = by (distinct (records t)) refl
-      where
-        stopped : distinct (drop k (records t)) ≡ false
-        stopped = rw (records_from t k here, ← told, not-true b e)
-
-        by : (d : Bool) → distinct (records t) ≡ d → false ≡ d
-        by false f = refl
-        by true f = clash (sym (distinct_drop k (records t) f) ∙ stopped)
+          by : (d : Bool) → distinct rs ≡ d → false ≡ d
+          by false f = refl
+          by true f = clash (sym (distinct_drop k rs f) ∙ stopped)

@@ -1,79 +1,57 @@
 // What a table alone decides: refusals 1 to 3, the lowest first.
-ghost use Rattle.std.specs.Prelude.{◌≡◌, true, ◌||◌, ◌+◌, ◌<◌, ◌/◌, length, drop};
+ghost use Rattle.std.specs.Prelude.{◌≡◌, ◌<◌};
 ghost use Rattle.rules.specs.Record.{record_ok};
-ghost use Rattle.rules.specs.Table.{record_bytes, records, record_at, all, identity, names_not, distinct, length_ok, table_number, judgement_number};
+ghost use Rattle.rules.specs.Table.{all, names_not, distinct, length_ok, table_number, judgement_number};
 ghost use Rattle.table.specs.Slots.{slot};
 
-use crate::find::{find_from, identity_of_record, nothing};
+use crate::find::find_in;
+use crate::identity::identity;
 use records::record::record_ok;
-use rules::{Judgement, MOST_RECORDS, RECORD_BYTES, Refusal};
+use rules::{Identity, MOST_RECORDS, RECORD_BYTES, Refusal};
+use wire::record::records;
 
 // Slots of marks: enough that few of 64 interfaces share one.
 const SLOTS: usize = 1024;
 
+#[tactic(auto, unfolding(rules::specs::Table::length_ok))]
 fn length_ok(n: usize) -> bool
     ensures { result ≡ length_ok n }
 {
     (RECORD_BYTES <= n) & (n <= MOST_RECORDS * RECORD_BYTES) & (n % RECORD_BYTES == 0)
 }
 
-fn record_ok_at(t: &[u8], k: usize) -> bool
-    requires { k < length t.now / record_bytes }
-    ensures { result ≡ record_ok (record_at t.now k) }
+fn records_ok(rs: &[[u8; RECORD_BYTES]]) -> bool
+    ensures { result ≡ all record_ok rs.now }
 {
-    let at = k * RECORD_BYTES;
-    let end = at + RECORD_BYTES;
-    record_ok(&t[at..end])
-}
-
-fn records_ok(t: &[u8]) -> bool
-    ensures { result ≡ all record_ok (records t.now) }
-{
-    let count = t.len() / RECORD_BYTES;
-    let mut k = 0;
-    while k < count {
-        if !record_ok_at(t, k) {
-            return false;
-        }
-        k += 1;
-    }
-    true
-}
-
-// No record after record k is for its interface.
-fn is_fresh(t: &[u8], k: usize) -> bool
-    requires { k < length t.now / record_bytes }
-    ensures { result ≡ all (names_not (identity (record_at t.now k))) (drop (k + 1) (records t.now)) }
-{
-    nothing(find_from(t, identity_of_record(t, k), k + 1))
+    rs.iter().all(|r| record_ok(r))
 }
 
 // Where an interface is marked: records for one interface share a slot.
-fn slot_of(t: &[u8], k: usize) -> usize
-    requires { k < length t.now / record_bytes }
-    ensures { (result ≡ slot (identity (record_at t.now k))) × (result < 1024) }
+fn slot_of(who: Identity) -> usize
+    ensures slot { result ≡ slot who }
+    ensures within { result < 1024 }
 {
-    identity_of_record(t, k).requester.0 as usize % SLOTS
+    usize::from(who.requester.0) % SLOTS
 }
 
-// No record after record k is for its interface: sure where its slot is not marked, else looked up.
-fn differs(t: &[u8], k: usize, marked: bool) -> bool
-    requires { (k < length t.now / record_bytes) × (marked || all (names_not (identity (record_at t.now k))) (drop (k + 1) (records t.now)) ≡ true) }
-    ensures { result ≡ all (names_not (identity (record_at t.now k))) (drop (k + 1) (records t.now)) }
+// None of these records is for an interface.
+#[tactic(auto, using(crate::proofs::Scans::none_all))]
+fn none_for(who: Identity, rs: &[[u8; RECORD_BYTES]]) -> bool
+    ensures { result ≡ all (names_not who) rs.now }
 {
-    if marked { is_fresh(t, k) } else { true }
+    find_in(rs, who).is_none()
 }
 
-// From the last record to the first; the slots of those passed are marked.
-fn identities_differ(t: &[u8]) -> bool
-    ensures { result ≡ distinct (records t.now) }
+// From the last record to the first; the slots of those passed are marked. An interface whose slot is not marked is none of theirs, any other is
+// looked up.
+fn identities_differ(rs: &[[u8; RECORD_BYTES]]) -> bool
+    ensures { result ≡ distinct rs.now }
 {
     let mut marks = [false; SLOTS];
-    let mut k = t.len() / RECORD_BYTES;
-    while 0 < k {
-        k -= 1;
-        let slot = slot_of(t, k);
-        if !differs(t, k, marks[slot]) {
+    for k in (0..rs.len()).rev() {
+        let who = identity(&rs[k]);
+        let slot = slot_of(who);
+        if marks[slot] && !none_for(who, &rs[k + 1..]) {
             return false;
         }
         marks[slot] = true;
@@ -82,17 +60,19 @@ fn identities_differ(t: &[u8]) -> bool
 }
 
 // What a table alone decides. It reads the table and changes nothing.
-pub fn judge(t: &[u8]) -> Judgement
+#[tactic(auto, unfolding(rules::specs::Table::table_number))]
+pub fn judge(t: &[u8]) -> Result<(), Refusal>
     ensures { judgement_number result ≡ table_number t.now }
 {
+    let rs = records(t);
     if !length_ok(t.len()) {
-        return Judgement::Refused(Refusal::TableLength);
+        return Err(Refusal::TableLength);
     }
-    if !records_ok(t) {
-        return Judgement::Refused(Refusal::TableRecord);
+    if !records_ok(rs) {
+        return Err(Refusal::TableRecord);
     }
-    if !identities_differ(t) {
-        return Judgement::Refused(Refusal::TableIdentities);
+    if !identities_differ(rs) {
+        return Err(Refusal::TableIdentities);
     }
-    Judgement::Accepted
+    Ok(())
 }

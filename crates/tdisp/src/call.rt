@@ -9,9 +9,9 @@ use changes::event::{multicast, session_end, stream_down};
 use changes::firmware::firmware_question;
 use changes::write::register_write;
 use responder::respond;
-use rules::{Answer, Session, Stream};
+use rules::{Answer, Numbered, Session, Stream};
 
-// A request's number and the reply's length.
+// A request's number and the reply's length. This and the next two are one for each name that c/tdisp.h has for the value.
 #[repr(C)]
 #[derive(Clone, Copy)]
 pub struct TdispAnswer {
@@ -35,15 +35,8 @@ pub struct TdispYes {
     pub yes: u32,
 }
 
-// A length or count, which is at most 256.
-fn small(answer: Answer) -> u32
-    requires { answer_value answer ≤ 256 }
-    ensures { result ≡ answer_value answer }
-{
-    answer.value() as u32
-}
-
 // Answers a request.
+#[tactic(auto, using(rules::proofs::Values::reply_small))]
 #[unsafe(no_mangle)]
 pub extern "C" fn tdisp_respond(
     request: &[u8],
@@ -65,13 +58,15 @@ pub extern "C" fn tdisp_respond(
         streams,
         Session(session),
     );
+    // The C interface counts in 32 bits, and a reply's length fits: `reply_small`. So below for a count.
     TdispAnswer {
         number: answer.number(),
-        length: small(answer),
+        length: answer.unwrap_or(0) as u32,
     }
 }
 
 // A register of this class was written, of the interface with this FUNCTION_ID.
+#[tactic(auto, using(rules::proofs::Values::written_small))]
 #[unsafe(no_mangle)]
 pub extern "C" fn tdisp_register_write(table: &mut [u8], function_id: u32, class: u8) -> TdispMoved
     ensures { Shows (step (RegisterWrite function_id class) table.old) result.number result.count [] table.new }
@@ -80,6 +75,7 @@ pub extern "C" fn tdisp_register_write(table: &mut [u8], function_id: u32, class
 }
 
 // A stream went down.
+#[tactic(auto, using(rules::proofs::Values::happened_small))]
 #[unsafe(no_mangle)]
 pub extern "C" fn tdisp_stream_down(table: &mut [u8], stream: u8) -> TdispMoved
     ensures { Shows (step (DeviceWide (StreamDown (record { 0 = stream }))) table.old) result.number result.count [] table.new }
@@ -88,6 +84,7 @@ pub extern "C" fn tdisp_stream_down(table: &mut [u8], stream: u8) -> TdispMoved
 }
 
 // A session ended.
+#[tactic(auto, using(rules::proofs::Values::happened_small))]
 #[unsafe(no_mangle)]
 pub extern "C" fn tdisp_session_end(table: &mut [u8], session: u8) -> TdispMoved
     ensures { Shows (step (DeviceWide (SessionEnd (record { 0 = session }))) table.old) result.number result.count [] table.new }
@@ -96,6 +93,7 @@ pub extern "C" fn tdisp_session_end(table: &mut [u8], session: u8) -> TdispMoved
 }
 
 // A multicast register was written.
+#[tactic(auto, using(rules::proofs::Values::happened_small))]
 #[unsafe(no_mangle)]
 pub extern "C" fn tdisp_multicast(table: &mut [u8]) -> TdispMoved
     ensures { Shows (step (DeviceWide Multicast) table.old) result.number result.count [] table.new }
@@ -103,24 +101,27 @@ pub extern "C" fn tdisp_multicast(table: &mut [u8]) -> TdispMoved
     moved(multicast(table))
 }
 
+// What a change gives, as C has it.
 fn moved(answer: Answer) -> TdispMoved
     requires { answer_value answer ≤ 256 }
-    ensures { (result.number ≡ answer_number answer) × (result.count ≡ answer_value answer) }
+    ensures number { result.number ≡ answer_number answer }
+    ensures count { result.count ≡ answer_value answer }
 {
     TdispMoved {
         number: answer.number(),
-        count: small(answer),
+        count: answer.unwrap_or(0) as u32,
     }
 }
 
 // The firmware question.
 #[unsafe(no_mangle)]
 pub extern "C" fn tdisp_firmware(table: &[u8]) -> TdispYes
-    ensures { (result.number ≡ (step FirmwareQuestion table.now).number) × (result.yes ≡ (step FirmwareQuestion table.now).value) }
+    ensures number { result.number ≡ (step FirmwareQuestion table.now).number }
+    ensures yes { result.yes ≡ (step FirmwareQuestion table.now).value }
 {
     let answer = firmware_question(table);
     TdispYes {
         number: answer.number(),
-        yes: answer.value(),
+        yes: answer.unwrap_or(false).into(),
     }
 }

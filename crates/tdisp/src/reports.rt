@@ -6,43 +6,29 @@ ghost use Rattle.report.specs.Shown.{fields_of};
 use crate::call::TdispAnswer;
 use report::crossing::{TdispReport, read_across};
 use report::write::write_report;
-use rules::ReportFields;
+use rules::Numbered;
 
-// Reads a report.
+// Reads a report. The archive for hosts exports it too: either may be linked alone.
 #[unsafe(no_mangle)]
 pub extern "C" fn tdisp_read_report(report: &[u8]) -> TdispReport
-    ensures { (result.number ≡ read_number report.now) × (fields_of result ≡ handed_back report.now) }
+    ensures number { result.number ≡ read_number report.now }
+    ensures fields { fields_of result ≡ handed_back report.now }
 {
     read_across(report)
 }
 
-// The fields, which the writer takes; the number is not read.
-fn fields_of(r: TdispReport) -> ReportFields
-    ensures { result ≡ fields_of r }
-{
-    let ranges = r.ranges;
-    let information = r.information;
-    ReportFields {
-        info: r.info,
-        msix: r.msix,
-        lnr: r.lnr,
-        tph: r.tph,
-        n: r.n,
-        ranges: ranges,
-        l: r.l,
-        information: information,
-    }
-}
-
 // Writes a report.
+#[tactic(auto, using(crate::proofs::Fits::report_fits))]
 #[unsafe(no_mangle)]
 pub extern "C" fn tdisp_write_report(fields: TdispReport, output: &mut [u8]) -> TdispAnswer
-    ensures { (result.number ≡ write_number (fields_of fields) (length output.old)) × (result.length ≡ written_length (fields_of fields) (length output.old)) × (output.new ≡ written (fields_of fields) output.old) }
+    ensures number { result.number ≡ write_number (fields_of fields) (length output.old) }
+    ensures length { result.length ≡ written_length (fields_of fields) (length output.old) }
+    ensures output { output.new ≡ written (fields_of fields) output.old }
 {
-    let w = write_report(fields_of(fields), output);
-    let verdict = w.verdict;
+    let written = write_report(fields.into(), output);
+    // The C interface counts in 32 bits, and a report's length fits: `report_fits`.
     TdispAnswer {
-        number: verdict.number(),
-        length: w.length as u32,
+        number: written.number(),
+        length: written.unwrap_or(0) as u32,
     }
 }

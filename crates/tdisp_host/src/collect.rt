@@ -4,8 +4,9 @@ ghost use Rattle.rules.specs.Collector.{fresh, next_offset, held_bytes, finished
 ghost use Rattle.collector.specs.Kept.{kept};
 
 use collector::{Collector, Whole};
+use rules::Numbered;
 
-// A reply's number, and the collector afterwards.
+// A reply's number, and the collector afterwards: the C interface gives the two in one struct.
 #[repr(C)]
 #[derive(Clone, Copy)]
 pub struct TdispTaken {
@@ -32,14 +33,14 @@ pub extern "C" fn tdisp_collector_next(c: Collector) -> u32
 // Takes a reply, or refuses it and hands back what it was given.
 #[unsafe(no_mangle)]
 pub extern "C" fn tdisp_collector_take(c: Collector, reply: &[u8]) -> TdispTaken
-    ensures { (result.number ≡ portion_number (portion_verdict (kept c) reply.now)) × (kept result.collector ≡ collected (kept c) reply.now) × (is_taken (portion_verdict (kept c) reply.now) ≡ false → result.collector ≡ c) }
+    ensures number { result.number ≡ portion_number (portion_verdict (kept c) reply.now) }
+    ensures collected { kept result.collector ≡ collected (kept c) reply.now }
+    ensures refused { is_taken (portion_verdict (kept c) reply.now) ≡ false → result.collector ≡ c }
 {
     let taken = c.take(reply);
-    let verdict = taken.verdict;
-    let collector = taken.collector;
     TdispTaken {
-        number: verdict.number(),
-        collector: collector,
+        number: taken.verdict.number(),
+        collector: taken.collector,
     }
 }
 
@@ -48,16 +49,15 @@ pub extern "C" fn tdisp_collector_take(c: Collector, reply: &[u8]) -> TdispTaken
 pub extern "C" fn tdisp_collector_finished(c: Collector) -> u32
     ensures { result ≡ (if finished (kept c) then 1 else 0) }
 {
-    if c.finished() {
-        return 1;
-    }
-    0
+    c.finished().into()
 }
 
 // What is held.
 #[unsafe(no_mangle)]
 pub extern "C" fn tdisp_collector_bytes(c: Collector) -> Whole
-    ensures { (result.length ≡ length (held_bytes (kept c))) × (take result.length result.bytes ≡ held_bytes (kept c)) × (result.bytes ≡ c.bytes) }
+    ensures counted { result.length ≡ length (held_bytes (kept c)) }
+    ensures front { take result.length result.bytes ≡ held_bytes (kept c) }
+    ensures all { result.bytes ≡ c.bytes }
 {
     c.hand_back()
 }

@@ -1,40 +1,25 @@
 // What is in a report: 23 to 25.
-ghost use Rattle.std.specs.Prelude.{◌≡◌, ◌≤◌};
-ghost use Rattle.rules.specs.Range.{most_ranges, range_in};
-ghost use Rattle.rules.specs.Report.{report_number, is_accepted, content_number};
+ghost use Rattle.std.specs.Prelude.{◌≡◌, length};
+ghost use Rattle.rules.specs.Range.{range_in};
+ghost use Rattle.rules.specs.Report.{report_number, content_number};
 
 use ranges::range::{all_attributes, all_pages, never_fall};
 use rules::bit::{INFO_UNUSED_FROM, INFO_UNUSED_VALUES};
-use rules::{Range, ReportVerdict};
-
-pub fn accepted(verdict: ReportVerdict) -> bool
-    ensures { result ≡ is_accepted verdict }
-{
-    match verdict {
-        ReportVerdict::Accepted => true,
-        ReportVerdict::Short => false,
-        ReportVerdict::TooMany => false,
-        ReportVerdict::Longer => false,
-        ReportVerdict::Reserved => false,
-        ReportVerdict::BadPages => false,
-        ReportVerdict::FallingIds => false,
-        ReportVerdict::SmallOutput => false,
-    }
-}
+use rules::{Range, ReportRefusal};
 
 // 23 over all ranges, before 24 is asked of any.
-pub fn content_verdict(info: u16, ranges: [Range; 8], n: usize) -> ReportVerdict
-    requires { n ≤ most_ranges }
-    ensures { report_number result ≡ content_number info n (range_in ranges) }
+#[tactic(auto, unfolding(rules::specs::Report::content_number))]
+pub fn content_verdict(info: u16, ranges: &[Range]) -> Result<(), ReportRefusal>
+    ensures { report_number result ≡ content_number info (length ranges.now) (range_in ranges.now) }
 {
-    if !((info / INFO_UNUSED_FROM % INFO_UNUSED_VALUES == 0) & all_attributes(ranges, n)) {
-        return ReportVerdict::Reserved;
+    if info / INFO_UNUSED_FROM % INFO_UNUSED_VALUES != 0 || !all_attributes(ranges) {
+        return Err(ReportRefusal::Reserved);
     }
-    if !all_pages(ranges, n) {
-        return ReportVerdict::BadPages;
+    if !all_pages(ranges) {
+        return Err(ReportRefusal::BadPages);
     }
-    if !never_fall(ranges, n) {
-        return ReportVerdict::FallingIds;
+    if !never_fall(ranges) {
+        return Err(ReportRefusal::FallingIds);
     }
-    ReportVerdict::Accepted
+    Ok(())
 }

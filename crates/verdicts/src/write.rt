@@ -4,21 +4,18 @@ ghost use Rattle.rules.specs.Report.{report_number, write_number};
 
 use crate::content::content_verdict;
 use rules::report::MOST_REPORT;
-use rules::{ReportFields, ReportVerdict};
+use rules::{ReportFields, ReportRefusal};
 
 // 26 for a short output, tested first; 21; then what is in the report.
-pub fn write_verdict(f: ReportFields, output: usize) -> ReportVerdict
-    ensures { report_number result ≡ write_number f output }
+#[tactic(auto, using(rules::proofs::Writes::by_fields), unfolding(rules::specs::Report::write_number))]
+pub fn write_verdict(f: &ReportFields, output: usize) -> Result<(), ReportRefusal>
+    ensures { report_number result ≡ write_number f.now output }
 {
     if output < MOST_REPORT {
-        return ReportVerdict::SmallOutput;
+        return Err(ReportRefusal::SmallOutput);
     }
-    if 8 < f.n {
-        return ReportVerdict::TooMany;
+    if 8 < f.n || 52 < f.l {
+        return Err(ReportRefusal::TooMany);
     }
-    if 52 < f.l {
-        return ReportVerdict::TooMany;
-    }
-    let ranges = f.ranges;
-    content_verdict(f.info, ranges, f.n as usize)
+    content_verdict(f.info, &f.ranges[..f.n as usize])
 }

@@ -1,15 +1,22 @@
 -- Zero bytes in words: one law for every width. Assumes nothing.
 use mathlib.Core.Path.{◌≡◌, refl, sym, ap, ◌∙◌}
 use mathlib.Core.Bool.{Bool, true, false, ◌&&◌}
-use mathlib.Core.List.{List}
+use mathlib.Core.List.{List, []}
 use Prim.Native.Nat.{ℕ, zero, suc, ◌+◌, ◌*◌, ◌/◌, ◌%◌, ◌≤◌}
-use native.Mathlib.Nat.{add-zero, add-suc, le_antisymm}
+use Prim.Native.Nat.{◌-◌, ◌<◌}
+use native.Mathlib.Nat.{add-zero, zero-add, add-suc}
 use native.Mathlib.Omega.{arith}
 use borrow.Author.Tests.{eqb-true, eqb-false, eq-eqb, ne_eqb}
 use lib.Dec.{eqb}
-use Rattle.rules.specs.Bytes.{byte, num, every, zero_at}
-use Rattle.rules.proofs.Bools.{and_true, and_false, and_assoc}
+use lib.ListN.{length, take, drop, get_or, length-take, length-drop}
+use lib.Seq.{get_or-take, get_or-drop}
+use Rattle.std.specs.Simd.{first_chunks}
+use Rattle.rules.specs.Bytes.{byte, num, part, every, zero_at, zeros}
+use Rattle.rules.proofs.Bools.{and_true, and_assoc}
 use Rattle.rules.proofs.Every.{every_same}
+use Rattle.rules.proofs.Numbers.{num_part}
+use Rattle.rules.proofs.Records.{cut_at}
+use Rattle.wire.proofs.Records.{chunks_cut}
 
 -- a test of every number below m + n, in two
 every_split : (p : ℕ → Bool) (m n : ℕ) → every (m + n) p ≡ every m p && every n (λ k. p (m + k))
@@ -41,25 +48,43 @@ number_zero s at (suc n) =
     ∙ ap (λ b. eqb (byte s at) 0 && b) (number_zero s (at + 1) n)
     ∙ sym (rw (add-zero at, one_add n) at (zero_split s at 1 n))
 
--- ---- a loop over words, with a flag that says whether the words passed are zero; x is the i-th word
+-- ---- words of 8 bytes, and the bytes that are left
 
-module _ (s : List ℕ) (at : ℕ) where
-  next_word : (i x : ℕ) → x ≡ num s (at + 8 * i) 8 → every (8 * (i + 1)) (zero_at s at) ≡ every (8 * i) (zero_at s at) && eqb x 0
-  next_word i x e =
-      let next : 8 * (i + 1) ≡ 8 * i + 8 = omega arith in
-      rw (next, zero_split s at (8 * i) 8, e, number_zero s (at + 8 * i) 8)
+-- word k of those at the front
+word_zero : (s : List ℕ) (n k : ℕ) → k < n → eqb (num (get_or (first_chunks 8 n s) k []) 0 8) 0 ≡ every 8 (zero_at s (k * 8))
+word_zero s n k h =
+    let word : get_or (first_chunks 8 n s) k [] ≡ part s (k * 8) 8 = rw (chunks_cut 8 n s) (cut_at 8 n k s h) in
+    rw (word, num_part s (k * 8) 8 0 8 (omega arith), add-zero) (number_zero s (k * 8) 8)
 
-  pub word_drops : (i x : ℕ) → x ≡ num s (at + 8 * i) 8 → (x ≡ 0 → ⊥) → false ≡ every (8 * (i + 1)) (zero_at s at)
-  word_drops i x e h = sym (rw (next_word i x e, ne_eqb x 0 h) (and_false (every (8 * i) (zero_at s at))))
+words_zero : (s : List ℕ) (m n : ℕ) → n ≤ m → every n (λ k. eqb (num (get_or (first_chunks 8 m s) k []) 0 8) 0) ≡ every (n * 8) (zero_at s 0)
+unfolding every
+words_zero s m zero h = refl
+words_zero s m (suc n) h =
+    let next : suc n * 8 ≡ n * 8 + 8 = omega arith in
+    rw (next, zero_split s 0 (n * 8) 8, words_zero s m n (omega arith), word_zero s m n (omega arith), zero-add)
 
-  pub word_keeps : {ok : Bool} (i x : ℕ) → x ≡ num s (at + 8 * i) 8 → ok ≡ every (8 * i) (zero_at s at) → x ≡ 0 → ok ≡ every (8 * (i + 1)) (zero_at s at)
-  word_keeps i x e p h = sym (rw (next_word i x e, eq-eqb x 0 h, p) (and_true (every (8 * i) (zero_at s at))))
+module _ (s : List ℕ) (first last : ℕ) where
+  -- what `s[first..last + 1]` shows
+  abbrev shown : List ℕ
+  shown = take (last + 1 - first) (drop first s)
 
-  pub words_done : {ok : Bool} (n i : ℕ) → i ≤ n → n ≤ i → ok ≡ every (8 * i) (zero_at s at) → ok ≡ every (8 * n) (zero_at s at)
-  words_done n i l m h = rw (le_antisymm l m) at h
+  zero_shown : (i : ℕ) → i < last + 1 - first → zero_at shown 0 i ≡ zero_at s first i
+  zero_shown i h = rw (zero-add, get_or-take, get_or-drop)
 
--- whole words first, then the bytes that are left
-pub words_and_bytes : {a b : Bool} (s : List ℕ) (at n : ℕ) → a ≡ every (8 * (n / 8)) (zero_at s at) → b ≡ every (n % 8) (zero_at s (at + 8 * (n / 8))) → a && b ≡ every n (zero_at s at)
-words_and_bytes s at n p q =
-    let whole : 8 * (n / 8) + n % 8 ≡ n = omega arith in
-    rw (p, q) (sym (zero_split s at (8 * (n / 8)) (n % 8)) ∙ ap (λ (k : ℕ). every k (zero_at s at)) whole)
+  long : first ≤ last + 1 → last < length s → length shown ≡ last + 1 - first
+  long h l = simp (length-take, length-drop) (omega arith)
+
+  rest_shown : (m i : ℕ) → i < length shown % 8 → zero_at (drop m shown) 0 i ≡ zero_at shown m i
+  rest_shown m i h = rw (zero-add, get_or-drop)
+
+  pub words_and_bytes : {a b : Bool} (words : List (List ℕ)) (bytes : List ℕ) → first ≤ last + 1 → last < length s
+      → words ≡ first_chunks 8 (length shown / 8) shown → length words ≡ length shown / 8 → bytes ≡ drop (length shown / 8 * 8) shown → length bytes ≡ length shown % 8
+      → a ≡ every (length words) (λ k. eqb (num (get_or words k []) 0 8) 0) → b ≡ every (length bytes) (zero_at bytes 0) → a && b ≡ zeros s first last
+  unfolding zeros
+  words_and_bytes words bytes h l w v x y p q =
+      let n = length shown / 8 in
+      let first_part = rw (v, w, words_zero shown n n (omega arith)) at p in
+      let rest = rw (y, x, every_same (length shown % 8) _ (zero_at shown (n * 8)) (rest_shown (n * 8))) at q in
+      let whole : n * 8 + length shown % 8 ≡ last + 1 - first = omega (arith, long h l) in
+      let join = rw zero-add at (zero_split shown 0 (n * 8) (length shown % 8)) in
+      rw (first_part, rest, ← join, whole) (every_same (last + 1 - first) _ _ zero_shown)

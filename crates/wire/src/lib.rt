@@ -3,6 +3,8 @@
 
 pub mod copy;
 pub mod identity;
+pub mod message;
 pub mod number;
+pub mod record;
 pub mod same;
 pub mod zero;

@@ -1,67 +1,103 @@
-// Numbers of 2, 4 and 8 bytes, low byte first. Each is two halves, so that one law serves every width; written as sums of bytes,
-// which the compiler turns into one load.
-ghost use Rattle.std.specs.Prelude.{◌≡◌, ◌+◌, ◌≤◌, ◌<◌, length};
+// What stands in a message, a report or a table: so many bytes from a place on, each number low byte first.
+ghost use Rattle.std.specs.Prelude.{◌≡◌, ◌+◌, ◌≤◌, List, ℕ, length};
 ghost use Rattle.rules.specs.Bytes.{num, bytes_of, over};
+ghost use Rattle.rules.specs.Range.{range_from, bytes_of_range};
 
-fn wide(x: u8) -> u16
-    ensures { (result ≡ x) × (result < 256) }
-{
-    x as u16
+use crate::copy::{copy_over, part};
+use rules::Range;
+
+pub trait LowFirst: Copy {
+    // How many bytes it takes, what stands at a place, and its bytes.
+    ghost width: { ℕ };
+
+    ghost at_place: { List ℕ → ℕ → Self };
+
+    ghost bytes: { Self → List ℕ };
+
+    fn read(s: &[u8], at: usize) -> Self
+        requires { at + width ≤ length s.now }
+        ensures { result ≡ at_place s.now at };
+
+    // Writes it over what stands from a place on.
+    fn write(self, s: &mut [u8], at: usize)
+        requires { at + width ≤ length s.old }
+        ensures { s.new ≡ over at (bytes self) s.old };
 }
 
-// The number in the 2 bytes from a place on.
-pub fn num16(s: &[u8], at: usize) -> u16
-    requires { at + 2 ≤ length s.now }
-    ensures { result ≡ num s.now at 2 }
-{
-    let low = wide(s[at]);
-    let high = wide(s[at + 1]);
-    low + 256 * high
+// One impl for each width, since the kit takes no impl that a macro of ours writes; the laws are for every width.
+#[tactic(auto, using(crate::proofs::Numbers::read_whole, crate::proofs::Numbers::written_whole))]
+impl LowFirst for u16 {
+    ghost width = { 2 };
+
+    ghost at_place = { λ s at. num s at 2 };
+
+    ghost bytes = { bytes_of 2 };
+
+    fn read(s: &[u8], at: usize) -> u16 {
+        u16::from_le_bytes(*part(s, at))
+    }
+
+    fn write(self, s: &mut [u8], at: usize) {
+        copy_over(s, at, &u16::to_le_bytes(self));
+    }
 }
 
-// The number in the 4 bytes from a place on.
-pub fn num32(s: &[u8], at: usize) -> u32
-    requires { at + 4 ≤ length s.now }
-    ensures { result ≡ num s.now at 4 }
-{
-    let low = num16(s, at) as u32;
-    let high = num16(s, at + 2) as u32;
-    low + 65536 * high
+#[tactic(auto, using(crate::proofs::Numbers::read_whole, crate::proofs::Numbers::written_whole))]
+impl LowFirst for u32 {
+    ghost width = { 4 };
+
+    ghost at_place = { λ s at. num s at 4 };
+
+    ghost bytes = { bytes_of 4 };
+
+    fn read(s: &[u8], at: usize) -> u32 {
+        u32::from_le_bytes(*part(s, at))
+    }
+
+    fn write(self, s: &mut [u8], at: usize) {
+        copy_over(s, at, &u32::to_le_bytes(self));
+    }
 }
 
-// The number in the 8 bytes from a place on.
-pub fn num64(s: &[u8], at: usize) -> u64
-    requires { at + 8 ≤ length s.now }
-    ensures { result ≡ num s.now at 8 }
-{
-    let low = num32(s, at) as u64;
-    let high = num32(s, at + 4) as u64;
-    low + 4294967296 * high
+#[tactic(auto, using(crate::proofs::Numbers::read_whole, crate::proofs::Numbers::written_whole))]
+impl LowFirst for u64 {
+    ghost width = { 8 };
+
+    ghost at_place = { λ s at. num s at 8 };
+
+    ghost bytes = { bytes_of 8 };
+
+    fn read(s: &[u8], at: usize) -> u64 {
+        u64::from_le_bytes(*part(s, at))
+    }
+
+    fn write(self, s: &mut [u8], at: usize) {
+        copy_over(s, at, &u64::to_le_bytes(self));
+    }
 }
 
-// Writes a number over the 2 bytes from a place on.
-pub fn put16(s: &mut [u8], at: usize, x: u16)
-    requires { at + 2 ≤ length s.old }
-    ensures { s.new ≡ over at (bytes_of 2 x) s.old }
-{
-    s[at] = (x % 256) as u8;
-    s[at + 1] = (x / 256) as u8;
-}
+// First page (8), pages (4), attributes (2), range ID (2).
+#[tactic(auto, using(rules::proofs::Written::range_written))]
+impl LowFirst for Range {
+    ghost width = { 16 };
 
-// Writes a number over the 4 bytes from a place on.
-pub fn put32(s: &mut [u8], at: usize, x: u32)
-    requires { at + 4 ≤ length s.old }
-    ensures { s.new ≡ over at (bytes_of 4 x) s.old }
-{
-    put16(s, at, (x % 65536) as u16);
-    put16(s, at + 2, (x / 65536) as u16);
-}
+    ghost at_place = { range_from };
 
-// Writes a number over the 8 bytes from a place on.
-pub fn put64(s: &mut [u8], at: usize, x: u64)
-    requires { at + 8 ≤ length s.old }
-    ensures { s.new ≡ over at (bytes_of 8 x) s.old }
-{
-    put32(s, at, (x % 4294967296) as u32);
-    put32(s, at + 4, (x / 4294967296) as u32);
+    ghost bytes = { bytes_of_range };
+
+    fn read(s: &[u8], at: usize) -> Range {
+        Range {
+            first: u64::read(s, at),
+            pages: u32::read(s, at + 8),
+            attributes: u16::read(s, at + 12),
+            id: u16::read(s, at + 14),
+        }
+    }
+
+    fn write(self, s: &mut [u8], at: usize) {
+        self.first.write(s, at);
+        self.pages.write(s, at + 8);
+        self.attributes.write(s, at + 12);
+        self.id.write(s, at + 14);
+    }
 }

@@ -1,47 +1,40 @@
 // Whether bytes are zero. Neither loop has an exit of its own, so that the compiler makes vector code.
-ghost use Rattle.std.specs.Prelude.{◌≡◌, ◌+◌, ◌*◌, ◌≤◌, ◌<◌, length};
-ghost use Rattle.rules.specs.Bytes.{every, zero_at, zeros};
+ghost use Rattle.std.specs.Prelude.{◌≡◌, ◌+◌, ◌≤◌, ◌<◌, [], eqb, get_or, length};
+ghost use Rattle.rules.specs.Bytes.{every, num, zero_at, zeros};
 
-use crate::number::num64;
+use crate::number::LowFirst;
 
-// Whether n words of 8 bytes from a place on are zero.
-fn words_zero(s: &[u8], at: usize, n: usize) -> bool
-    requires { at + 8 * n ≤ length s.now }
-    ensures { result ≡ every (8 * n) (zero_at s.now at) }
+// Whether words of 8 bytes are zero: eight bytes a test, which docs/SPEED.md counts; the bytes' own loop takes what is left.
+#[tactic(auto, using(rules::proofs::Every::every_none, rules::proofs::Every::every_more))]
+fn words_zero(words: &[[u8; 8]]) -> bool
+    ensures { result ≡ every (length words.now) (λ k. eqb (num (get_or words.now k []) 0 8) 0) }
 {
-    let mut ok = true;
-    let mut i = 0;
-    while i < n {
-        if num64(s, at + 8 * i) != 0 {
-            ok = false;
-        }
-        i += 1;
+    let mut zero = true;
+    for word in words {
+        zero &= u64::read(word, 0) == 0;
     }
-    ok
+    zero
 }
 
-// Whether n bytes from a place on are zero.
-fn bytes_zero(s: &[u8], at: usize, n: usize) -> bool
-    requires { at + n ≤ length s.now }
-    ensures { result ≡ every n (zero_at s.now at) }
+// Whether bytes are zero, one by one.
+#[tactic(auto, using(rules::proofs::Every::every_none, rules::proofs::Every::every_more))]
+fn bytes_zero(bytes: &[u8]) -> bool
+    ensures { result ≡ every (length bytes.now) (zero_at bytes.now 0) }
 {
-    let mut ok = true;
-    let mut i = 0;
-    while i < n {
-        if s[at + i] != 0 {
-            ok = false;
-        }
-        i += 1;
+    let mut zero = true;
+    for byte in bytes {
+        zero &= *byte == 0;
     }
-    ok
+    zero
 }
 
 // Whether the bytes from first to last, both counted, are zero: whole words first, then the bytes that are left.
+#[tactic(auto, using(crate::proofs::Zeros::words_and_bytes))]
 pub fn zero(s: &[u8], first: usize, last: usize) -> bool
     requires { (first ≤ last + 1) × (last < length s.now) }
     ensures { result ≡ zeros s.now first last }
 {
-    let n = last + 1 - first;
-    let words = n / 8;
-    words_zero(s, first, words) & bytes_zero(s, first + 8 * words, n % 8)
+    let end = last + 1;
+    let (words, bytes) = s[first..end].as_chunks();
+    words_zero(words) & bytes_zero(bytes)
 }

@@ -5,9 +5,11 @@ mod portion;
 mod reader;
 mod writer;
 
+use compare::screen::Screen;
+
 fn main() {
-    reader::sizes();
-    reader::contents();
-    writer::cases();
-    portion::last_byte();
+    reader::sizes(&Screen);
+    reader::contents(&Screen);
+    writer::cases(&Screen);
+    portion::last_byte(&Screen);
 }

@@ -2,37 +2,41 @@
 use compare::case;
 use compare::record::full_record;
 use portions::portion::{put_portion, report_total};
+use portions::record::Record;
 use records::record::record_ok;
-use wire::number::num16;
 
 // The lengths that a portion begins with.
-fn lengths(out: [u8; 256], portion: u64, remainder: u64) {
+fn lengths(rt: &impl Print, out: &[u8; 256], portion: u16, remainder: u16) {
     case(
-        b"  OFFSET 199, LENGTH 65,535: portion",
-        num16(&out, 0) as u64,
-        portion,
+        rt,
+        "  OFFSET 199, LENGTH 65,535: portion",
+        u64::from(u16::from_le_bytes([out[0], out[1]])),
+        u64::from(portion),
     );
-    case(b"  and remainder", num16(&out, 2) as u64, remainder);
+    case(
+        rt,
+        "  and remainder",
+        u64::from(u16::from_le_bytes([out[2], out[3]])),
+        u64::from(remainder),
+    );
 }
 
-fn cut(r: &[u8], at: usize, asked: usize, portion: u64, remainder: u64) {
-    if r.len() != 256 {
-        return;
-    }
+fn cut(rt: &impl Print, r: &[u8; 256], at: usize, asked: usize, portion: u16, remainder: u16) {
     if !record_ok(r) {
         return;
     }
-    let total = report_total(r);
-    case(b"the total of the fullest report", total as u64, 200);
+    let record = Record { bytes: r };
+    let total = report_total(record);
+    // as: usize has no From into u64.
+    case(rt, "the total of the fullest report", total as u64, 200);
     if total <= at {
         return;
     }
     let mut out = [0u8; 256];
-    put_portion(r, at, asked, &mut out);
-    lengths(out, portion, remainder);
+    put_portion(record, at, asked, &mut out);
+    lengths(rt, &out, portion, remainder);
 }
 
-pub(crate) fn last_byte() {
-    let r = full_record();
-    cut(&r, 199, 65535, 1, 0);
+pub(crate) fn last_byte(rt: &impl Print) {
+    cut(rt, &full_record(), 199, 65535, 1, 0);
 }

@@ -1,116 +1,124 @@
 // The report reader's cases.
 use compare::case;
+use compare::record::with_bytes;
 use report::read::read_report;
-use wire::number::{put16, put32, put64};
+use rules::Numbered;
 
-fn read(name: &[u8], s: &[u8], want: u64) {
-    let r = read_report(s);
-    let verdict = r.verdict;
-    case(name, verdict.number() as u64, want);
+fn read(rt: &impl Print, name: &str, s: &[u8], want: u64) {
+    case(rt, name, u64::from(read_report(s).number()), want);
 }
 
-// 20 zero bytes but for one, which stands at a place below 20.
-fn twenty(name: &[u8], at: usize, value: u8, want: u64) {
-    if 20 <= at {
-        return;
-    }
-    let mut s = [0u8; 20];
-    s[at] = value;
-    read(name, &s, want);
+// 20 zero bytes but for one.
+fn twenty(rt: &impl Print, name: &str, at: usize, value: u8, want: u64) {
+    read(rt, name, &with_bytes([0u8; 20], &[(at, value)]), want);
 }
 
-fn zeros() {
+fn zeros(rt: &impl Print) {
     let zeros = [0u8; 21];
-    read(b"an empty report", &zeros[..0], 20);
-    read(b"nineteen zero bytes", &zeros[..19], 20);
-    read(b"twenty zero bytes", &zeros[..20], 0);
-    read(b"21 zero bytes", &zeros, 22);
+    read(rt, "an empty report", &zeros[..0], 20);
+    read(rt, "nineteen zero bytes", &zeros[..19], 20);
+    read(rt, "twenty zero bytes", &zeros[..20], 0);
+    read(rt, "21 zero bytes", &zeros, 22);
 }
 
-pub(crate) fn sizes() {
-    zeros();
-    twenty(b"N = 9 in 20 bytes", 12, 9, 21);
-    let mut all = [0u8; 20];
-    put32(&mut all, 12, 0xffffffff);
-    read(b"N = FFFFFFFFh in 20 bytes", &all, 21);
-    twenty(b"N = 1 in 20 bytes", 12, 1, 20);
-    twenty(b"L = 53 in 20 bytes", 16, 53, 21);
-    twenty(b"L = 1 in 20 bytes", 16, 1, 20);
-    let mut reserved = [0u8; 21];
-    reserved[0] = 32;
-    read(b"a reserved bit and one byte too many", &reserved, 22);
+pub(crate) fn sizes(rt: &impl Print) {
+    zeros(rt);
+    twenty(rt, "N = 9 in 20 bytes", 12, 9, 21);
+    let all = with_bytes([0u8; 20], &[(12, 0xff), (13, 0xff), (14, 0xff), (15, 0xff)]);
+    read(rt, "N = FFFFFFFFh in 20 bytes", &all, 21);
+    twenty(rt, "N = 1 in 20 bytes", 12, 1, 20);
+    twenty(rt, "L = 53 in 20 bytes", 16, 53, 21);
+    twenty(rt, "L = 1 in 20 bytes", 16, 1, 20);
+    let reserved = with_bytes([0u8; 21], &[(0, 32)]);
+    read(rt, "a reserved bit and one byte too many", &reserved, 22);
 }
 
-// Two ranges in 52 bytes: the first's pages and ID; the second's pages, attributes and ID.
-fn two_ranges(name: &[u8], pages: u8, id: u8, more: u8, attributes: u8, next: u8, want: u64) {
-    let mut s = [0u8; 52];
-    s[12] = 2;
-    s[24] = pages;
-    s[30] = id;
-    s[40] = more;
-    s[44] = attributes;
-    s[46] = next;
-    read(name, &s, want);
+// Two ranges in 52 bytes: their pages, their IDs, and the second's attributes.
+fn two_ranges(
+    rt: &impl Print,
+    name: &str,
+    pages: [u8; 2],
+    ids: [u8; 2],
+    attributes: u8,
+    want: u64,
+) {
+    let s = with_bytes(
+        [0u8; 52],
+        &[
+            (12, 2),
+            (24, pages[0]),
+            (30, ids[0]),
+            (40, pages[1]),
+            (44, attributes),
+            (46, ids[1]),
+        ],
+    );
+    read(rt, name, &s, want);
 }
 
 // Three ranges of one page in 68 bytes, with the IDs a, b and c.
-fn three_ids(name: &[u8], a: u8, b: u16, c: u8, want: u64) {
-    let mut s = [0u8; 68];
-    s[12] = 3;
-    s[24] = 1;
-    s[30] = a;
-    s[40] = 1;
-    put16(&mut s, 46, b);
-    s[56] = 1;
-    s[62] = c;
-    read(name, &s, want);
+fn three_ids(rt: &impl Print, name: &str, a: u8, b: u16, c: u8, want: u64) {
+    let [low, high] = b.to_le_bytes();
+    let s = with_bytes(
+        [0u8; 68],
+        &[
+            (12, 3),
+            (24, 1),
+            (30, a),
+            (40, 1),
+            (46, low),
+            (47, high),
+            (56, 1),
+            (62, c),
+        ],
+    );
+    read(rt, name, &s, want);
 }
 
 // One range in 36 bytes.
-fn one_range(name: &[u8], first: u64, pages: u8, want: u64) {
-    let mut s = [0u8; 36];
-    s[12] = 1;
-    put64(&mut s, 16, first);
-    s[24] = pages;
-    read(name, &s, want);
+fn one_range(rt: &impl Print, name: &str, first: u64, pages: u8, want: u64) {
+    let mut s = with_bytes([0u8; 36], &[(12, 1), (24, pages)]);
+    s[16..24].copy_from_slice(&first.to_le_bytes());
+    read(rt, name, &s, want);
 }
 
-fn reserved() {
-    twenty(b"INTERFACE_INFO bit 5", 0, 32, 23);
-    twenty(b"byte 2 not zero", 2, 1, 23);
-    twenty(b"byte 3 not zero", 3, 128, 23);
+fn reserved(rt: &impl Print) {
+    twenty(rt, "INTERFACE_INFO bit 5", 0, 32, 23);
+    twenty(rt, "byte 2 not zero", 2, 1, 23);
+    twenty(rt, "byte 3 not zero", 3, 128, 23);
 }
 
-fn ranges() {
-    two_ranges(
-        b"pages 0 in range 0 and attribute bit 4 in range 1",
-        0,
-        0,
-        1,
-        16,
-        0,
-        23,
-    );
-    two_ranges(b"pages 0 with falling IDs", 0, 5, 1, 0, 4, 24);
-    two_ranges(b"pages 0 in the last range", 1, 0, 0, 0, 0, 24);
-    three_ids(b"IDs 7, FFFFh, 0", 7, 0xffff, 0, 25);
-    three_ids(b"IDs 3, 9, 2", 3, 9, 2, 25);
-    three_ids(b"IDs 3, 9, 3", 3, 9, 3, 0);
+fn ranges(rt: &impl Print) {
+    let both = "pages 0 in range 0 and attribute bit 4 in range 1";
+    two_ranges(rt, both, [0, 1], [0, 0], 16, 23);
+    two_ranges(rt, "pages 0 with falling IDs", [0, 1], [5, 4], 0, 24);
+    two_ranges(rt, "pages 0 in the last range", [1, 0], [0, 0], 0, 24);
+    three_ids(rt, "IDs 7, FFFFh, 0", 7, 0xffff, 0, 25);
+    three_ids(rt, "IDs 3, 9, 2", 3, 9, 2, 25);
+    three_ids(rt, "IDs 3, 9, 3", 3, 9, 3, 0);
 }
 
-fn pages() {
+fn pages(rt: &impl Print) {
+    let wraps = "a first page of FFFFFFFFFFFFFFFFh with pages 1";
+    one_range(rt, wraps, 0xffffffffffffffff, 1, 24);
     one_range(
-        b"a first page of FFFFFFFFFFFFFFFFh with pages 1",
-        0xffffffffffffffff,
+        rt,
+        "first page 2^52 - 1 with pages 1",
+        0xfffffffffffff,
         1,
+        0,
+    );
+    one_range(
+        rt,
+        "first page 2^52 - 1 with pages 2",
+        0xfffffffffffff,
+        2,
         24,
     );
-    one_range(b"first page 2^52 - 1 with pages 1", 0xfffffffffffff, 1, 0);
-    one_range(b"first page 2^52 - 1 with pages 2", 0xfffffffffffff, 2, 24);
 }
 
-pub(crate) fn contents() {
-    reserved();
-    ranges();
-    pages();
+pub(crate) fn contents(rt: &impl Print) {
+    reserved(rt);
+    ranges(rt);
+    pages(rt);
 }

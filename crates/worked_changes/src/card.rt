@@ -1,44 +1,35 @@
 // Tables in the memory of this program, and what a change gives. A record's first ten bytes are written out: FUNCTION_ID, state, nonce
 // held, flags, default stream, session; the rest of it is zero: offset 0, no ranges, no information.
-use compare::{bytes, case};
+use compare::{bytes, counted};
 use rules::Answer;
-use wire::copy::copy_over;
 
-// Requester 0100h with these first ten bytes.
-pub(crate) fn one(head: &[u8; 10]) -> [u8; 256] {
-    let mut table = [0u8; 256];
-    copy_over(&mut table, 0, head);
-    table
-}
-
-// Four interfaces.
-pub(crate) fn four(a: &[u8; 10], b: &[u8; 10], c: &[u8; 10], d: &[u8; 10]) -> [u8; 1024] {
-    let mut table = [0u8; 1024];
-    copy_over(&mut table, 0, a);
-    copy_over(&mut table, 256, b);
-    copy_over(&mut table, 512, c);
-    copy_over(&mut table, 768, d);
+// Interfaces with these first ten bytes, in a table of N bytes, one record after the other.
+pub(crate) fn table<const N: usize>(heads: &[[u8; 10]]) -> [u8; N] {
+    let mut table = [0u8; N];
+    let (records, _) = table.as_chunks_mut::<256>();
+    for (record, head) in records.iter_mut().zip(heads) {
+        record[..10].copy_from_slice(head);
+    }
     table
 }
 
 // 0100h in RUN and 0101h in CONFIG_LOCKED, 0102h in RUN and 0103h in CONFIG_LOCKED; streams 3, 5, 3, 3; sessions 9, 9, 7, 8.
 pub(crate) fn card() -> [u8; 1024] {
-    four(
-        b"\x00\x01\x00\x00\x02\x00\x00\x00\x03\x09",
-        b"\x01\x01\x00\x00\x01\x01\x00\x00\x05\x09",
-        b"\x02\x01\x00\x00\x02\x00\x00\x00\x03\x07",
-        b"\x03\x01\x00\x00\x01\x01\x00\x00\x03\x08",
-    )
+    table(&[
+        *b"\x00\x01\x00\x00\x02\x00\x00\x00\x03\x09",
+        *b"\x01\x01\x00\x00\x01\x01\x00\x00\x05\x09",
+        *b"\x02\x01\x00\x00\x02\x00\x00\x00\x03\x07",
+        *b"\x03\x01\x00\x00\x01\x01\x00\x00\x03\x08",
+    ])
 }
 
 // A change's number and count.
-pub(crate) fn moved(name: &[u8], answer: Answer, number: u64, count: u64) {
-    case(name, answer.number() as u64, number);
-    case(b"  records moved", answer.value() as u64, count);
+pub(crate) fn moved(rt: &impl Print, name: &str, answer: Answer, number: u64, count: u64) {
+    counted(rt, name, answer, "  records moved", number, count);
 }
 
 // The states of the four interfaces.
-pub(crate) fn states(table: &[u8; 1024], want: &[u8; 4]) {
+pub(crate) fn states(rt: &impl Print, table: &[u8; 1024], want: &[u8; 4]) {
     let came = [table[4], table[260], table[516], table[772]];
-    bytes(b"  their states", &came, want);
+    bytes(rt, "  their states", &came, want);
 }

@@ -1,78 +1,56 @@
 // The firmware question, before and after a stop and an error.
-use crate::card::one;
+use crate::card::table;
 use changes::event::multicast;
 use changes::firmware::firmware_question;
-use compare::case;
+use compare::counted;
+use compare::request::message;
 use responder::respond;
-use rules::{FirmwareAnswer, Session};
+use rules::Session;
 
-fn told(name: &[u8], answer: FirmwareAnswer, number: u64, yes: u64) {
-    case(name, answer.number() as u64, number);
-    case(b"  yes is 1", answer.value() as u64, yes);
+// What the question gets of a table.
+fn asked(rt: &impl Print, name: &str, table: &[u8], number: u64, yes: u64) {
+    let answer = firmware_question(table).map(usize::from);
+    counted(rt, name, answer, "  yes is 1", number, yes);
 }
 
-fn stopped() {
-    let mut table = one(b"\x00\x01\x00\x00\x02\x00\x01\x00\x03\x09");
-    told(
-        b"firmware, in RUN under NO_FW_UPDATE",
-        firmware_question(&table),
-        0,
-        0,
-    );
-    let mut reply = [0u8; 256];
+fn stopped(rt: &impl Print) {
+    let mut table: [u8; 256] = table(&[*b"\x00\x01\x00\x00\x02\x00\x01\x00\x03\x09"]);
+    asked(rt, "firmware, in RUN under NO_FW_UPDATE", &table, 0, 0);
+    let stop = message::<16>(0x87, 0x0100);
     let zeros = [0u8; 32];
-    respond(
-        b"\x10\x87\x00\x00\x00\x01\x00\x00\x00\x00\x00\x00\x00\x00\x00\x00",
-        &mut reply,
+    let _ = respond(
+        &stop,
+        &mut [0; 256],
         &mut table,
         &zeros,
         false,
         &zeros,
         Session(9),
     );
-    told(b"firmware, after the stop", firmware_question(&table), 0, 1);
+    asked(rt, "firmware, after the stop", &table, 0, 1);
 }
 
-fn failed() {
-    let mut table = one(b"\x00\x01\x00\x00\x01\x01\x05\x00\x03\x09");
-    told(
-        b"firmware, in CONFIG_LOCKED under NO_FW_UPDATE",
-        firmware_question(&table),
+fn failed(rt: &impl Print) {
+    let mut table: [u8; 256] = table(&[*b"\x00\x01\x00\x00\x01\x01\x05\x00\x03\x09"]);
+    asked(
+        rt,
+        "firmware, in CONFIG_LOCKED under NO_FW_UPDATE",
+        &table,
         0,
         0,
     );
-    multicast(&mut table);
-    told(
-        b"firmware, after the error",
-        firmware_question(&table),
-        0,
-        1,
-    );
+    let _ = multicast(&mut table);
+    asked(rt, "firmware, after the error", &table, 0, 1);
 }
 
-fn other_flag() {
-    let table = one(b"\x00\x01\x00\x00\x02\x00\x04\x00\x03\x09");
-    told(
-        b"firmware, in RUN under LOCK_MSIX alone",
-        firmware_question(&table),
-        0,
-        1,
-    );
+fn other_flag(rt: &impl Print) {
+    let table: [u8; 256] = table(&[*b"\x00\x01\x00\x00\x02\x00\x04\x00\x03\x09"]);
+    asked(rt, "firmware, in RUN under LOCK_MSIX alone", &table, 0, 1);
 }
 
-fn refused() {
-    let table = [0u8; 255];
-    told(
-        b"firmware, of a table of 255 bytes",
-        firmware_question(&table),
-        1,
-        0,
-    );
-}
-
-pub(crate) fn cases() {
-    stopped();
-    failed();
-    other_flag();
-    refused();
+pub(crate) fn cases(rt: &impl Print) {
+    stopped(rt);
+    failed(rt);
+    other_flag(rt);
+    asked(rt, "firmware, of a table of 255 bytes", &[0; 255], 1, 0);
 }

@@ -7,9 +7,11 @@ mod every_class;
 mod firmware;
 mod refusals;
 
+use compare::screen::Screen;
+
 fn main() {
-    every_class::cases();
-    device::cases();
-    firmware::cases();
-    refusals::cases();
+    every_class::cases(&Screen);
+    device::cases(&Screen);
+    firmware::cases(&Screen);
+    refusals::cases(&Screen);
 }

@@ -2,72 +2,71 @@
 use crate::card::{card, moved};
 use changes::event::{multicast, session_end, stream_down};
 use changes::write::register_write;
+use compare::record::with_bytes;
 use compare::unchanged;
 use rules::{Session, Stream};
 
-// Each call on one table, with the number that all four give.
-fn each(name: &[u8], table: &mut [u8], before: &[u8], number: u64) {
-    moved(name, register_write(table, 0x100, 1), number, 0);
-    moved(name, stream_down(table, Stream(3)), number, 0);
-    moved(name, session_end(table, Session(9)), number, 0);
-    moved(name, multicast(table), number, 0);
-    unchanged(b"  the table", table, before);
+// Each call on such a table, with the number that all four give.
+fn each<const N: usize>(rt: &impl Print, name: &str, before: [u8; N], number: u64) {
+    let mut table = before;
+    moved(rt, name, register_write(&mut table, 0x100, 1), number, 0);
+    moved(rt, name, stream_down(&mut table, Stream(3)), number, 0);
+    moved(rt, name, session_end(&mut table, Session(9)), number, 0);
+    moved(rt, name, multicast(&mut table), number, 0);
+    unchanged(rt, "  the table", &table, &before);
 }
 
-fn length() {
-    let before = [0u8; 255];
-    let mut table = before;
-    each(b"255 bytes", &mut table, &before, 1);
+fn tables(rt: &impl Print) {
+    each(rt, "255 bytes", [0; 255], 1);
+    each(
+        rt,
+        "state 4 in the last record",
+        with_bytes(card(), &[(772, 4)]),
+        2,
+    );
+    each(rt, "0102h twice", with_bytes(card(), &[(768, 2)]), 3);
 }
 
-fn rules_broken() {
-    let mut before = card();
-    before[772] = 4;
-    let mut table = before;
-    each(b"state 4 in the last record", &mut table, &before, 2);
-}
-
-fn equal() {
-    let mut before = card();
-    before[768] = 2;
-    let mut table = before;
-    each(b"0102h twice", &mut table, &before, 3);
+// A register write on such a table.
+fn written(
+    rt: &impl Print,
+    name: &str,
+    table: &mut [u8; 1024],
+    function_id: u32,
+    class: u8,
+    number: u64,
+    count: u64,
+) {
+    moved(
+        rt,
+        name,
+        register_write(table, function_id, class),
+        number,
+        count,
+    );
 }
 
 // An interface that is no record's: an allowed class, class 10 and class 4.
-fn unknown() {
+fn unknown(rt: &impl Print) {
     let before = card();
     let mut table = before;
-    moved(
-        b"class 1 naming 0104h",
-        register_write(&mut table, 0x104, 1),
+    written(rt, "class 1 naming 0104h", &mut table, 0x104, 1, 7, 0);
+    written(rt, "class 10 naming 0104h", &mut table, 0x104, 10, 7, 0);
+    written(
+        rt,
+        "class 4 naming 0100h of segment 0, marked",
+        &mut table,
+        0x1000100,
+        4,
         7,
         0,
     );
-    moved(
-        b"class 10 naming 0104h",
-        register_write(&mut table, 0x104, 10),
-        7,
-        0,
-    );
-    moved(
-        b"class 4 naming 0100h of segment 0, marked",
-        register_write(&mut table, 0x1000100, 4),
-        7,
-        0,
-    );
-    unchanged(b"  the table", &table, &before);
-    moved(
-        b"class 4 naming 0100h with bits 31:25 and an unmarked segment",
-        register_write(&mut table, 0xfe550100, 4),
-        0,
-        1,
-    );
+    unchanged(rt, "  the table", &table, &before);
+    let unmarked = "class 4 naming 0100h with bits 31:25 and an unmarked segment";
+    written(rt, unmarked, &mut table, 0xfe550100, 4, 0, 1);
 }
 
-pub(crate) fn cases() {
-    length();
-    rules_broken();
-    equal();
-    unknown();
+pub(crate) fn cases(rt: &impl Print) {
+    tables(rt);
+    unknown(rt);
 }

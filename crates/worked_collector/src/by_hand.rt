@@ -1,52 +1,52 @@
 // Replies of type 04h, and a collector that is handed one.
 use collector::Collector;
 use compare::case;
-use wire::copy::least;
-use wire::number::put16;
+use compare::record::with_bytes;
+use rules::Numbered;
 
 // One for 0100h: what it says of portion and remainder; bytes of 5Ah behind.
 pub(crate) fn reply(portion: u16, remainder: u16) -> [u8; 256] {
-    let mut r = [0x5au8; 256];
-    r[0] = 0x10;
-    r[1] = 0x04;
-    put16(&mut r, 2, 0);
-    put16(&mut r, 4, 0x0100);
-    put16(&mut r, 6, 0);
-    put16(&mut r, 16, portion);
-    put16(&mut r, 18, remainder);
+    let [low, high] = portion.to_le_bytes();
+    let [rest_low, rest_high] = remainder.to_le_bytes();
+    let mut r = with_bytes(
+        [0x5au8; 256],
+        &[(16, low), (17, high), (18, rest_low), (19, rest_high)],
+    );
+    r[..8].copy_from_slice(b"\x10\x04\x00\x00\x00\x01\x00\x00");
     r
 }
 
-// The first n of its bytes, handed to a collector: by which number it is refused, 0 where it is taken.
-pub(crate) fn hand(name: &[u8], c: Collector, reply: &[u8], n: usize, want: u64) -> Collector {
-    let first = 0;
-    let end = least(n, reply.len());
-    let taken = c.take(&reply[first..end]);
-    let verdict = taken.verdict;
-    case(name, verdict.number() as u64, want);
+// The first n of its bytes, handed to a collector: by which number it is refused, 0 where it is taken. The reply and n apart: tried as one slice,
+// and what a call gave leaves its bound open where it is cut.
+pub(crate) fn hand(
+    rt: &impl Print,
+    name: &str,
+    c: Collector,
+    reply: &[u8; 256],
+    n: usize,
+    want: u64,
+) -> Collector {
+    let taken = c.take(&reply[..n.min(256)]);
+    case(rt, name, u64::from(taken.verdict.number()), want);
     taken.collector
 }
 
 // A reply that says so and is so long.
 pub(crate) fn said(
-    name: &[u8],
+    rt: &impl Print,
+    name: &str,
     c: Collector,
     portion: u16,
     remainder: u16,
     want: u64,
 ) -> Collector {
     let r = reply(portion, remainder);
-    hand(name, c, &r, 20 + portion as usize, want)
+    hand(rt, name, c, &r, 20 + usize::from(portion), want)
 }
 
 // What is held, whether it is finished, and the OFFSET to ask for.
-pub(crate) fn holds(c: Collector, held: u64, finished: u64) {
-    let whole = c.hand_back();
-    case(b"  bytes held", whole.length as u64, held);
-    case(b"  the next OFFSET", c.next_offset() as u64, held);
-    let mut told = 0;
-    if c.finished() {
-        told = 1;
-    }
-    case(b"  finished", told, finished);
+pub(crate) fn holds(rt: &impl Print, c: Collector, held: u64, finished: u64) {
+    case(rt, "  bytes held", u64::from(c.hand_back().length), held);
+    case(rt, "  the next OFFSET", u64::from(c.next_offset()), held);
+    case(rt, "  finished", u64::from(c.finished()), finished);
 }

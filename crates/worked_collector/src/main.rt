@@ -6,8 +6,10 @@ mod cuts;
 mod names;
 mod totals;
 
+use compare::screen::Screen;
+
 fn main() {
-    names::cases();
-    totals::cases();
-    cuts::cases();
+    names::cases(&Screen);
+    totals::cases(&Screen);
+    cuts::cases(&Screen);
 }

@@ -8,10 +8,12 @@ mod lock;
 mod refusals;
 mod requests;
 
+use compare::screen::Screen;
+
 fn main() {
-    requests::in_a_row();
-    requests::last_byte();
-    bind::in_both_states();
-    errors::cases();
-    refusals::cases();
+    requests::in_a_row(&Screen);
+    requests::last_byte(&Screen);
+    bind::in_both_states(&Screen);
+    errors::cases(&Screen);
+    refusals::cases(&Screen);
 }

@@ -1,4 +1,5 @@
 -- Each wrong responder is refused by a demand. Assumes nothing.
+use Rattle.std.specs.Prelude.{Some}
 use mathlib.Core.Path.{◌≡◌, refl, sym, ap, ◌∙◌}
 use mathlib.Core.Bool.{true}
 use mathlib.Core.List.{List, [], ◌∷◌, ◌++◌}
@@ -16,7 +17,6 @@ use Rattle.rules.specs.Report.{content_number, size_number, read_number, read_fi
 use Rattle.rules.specs.Request.{kind_of, header, message, exact_length, legal_in, verdict, locked, lock_interface, running, effect}
 use Rattle.rules.specs.Table.{cut, records, record_at, all, distinct, length_ok, table_number, find_from, find}
 use Rattle.rules.specs.declared.Event.TheVariants.{Multicast}
-use Rattle.rules.specs.declared.Found.TheVariants.{At}
 use Rattle.rules.specs.declared.Identity.{Identity}
 use Rattle.rules.specs.declared.ReportFields.{ReportFields}
 use Rattle.rules.proofs.Bools.{clash}
@@ -40,7 +40,7 @@ card_unlocked : all unlocked (records card) ≡ true
 unfolding records cut all
 card_unlocked = refl
 
-card_found : find interface (records card) ≡ At 0
+card_found : find interface (records card) ≡ Some 0
 unfolding records cut find_from same num
 card_found = refl
 

@@ -14,7 +14,6 @@ use Rattle.rules.specs.Record.{offset_ok, lock_ok, ranges_ok, information_ok, re
 use Rattle.rules.specs.Report.{head_of, bytes_of_ranges, information_from, report_bytes, report_of, portion_bytes}
 use Rattle.rules.specs.Request.{Lent, header, message, exact_length, legal_in, verdict, get_report, running, start_interface, gets, effect}
 use Rattle.rules.specs.Table.{cut, records, all, distinct, length_ok, table_number, find_from}
-use Rattle.rules.specs.declared.PortionVerdict.TheVariants.{Taken, OtherLength}
 use Rattle.rules.proofs.Listed.{same_at_lem}
 use Rattle.rules.proofs.Numbers.{bytes_append}
 use Rattle.demands.specs.Answers.{first_of}
@@ -43,12 +42,9 @@ unfolding first_of num same bytes_of
 over_first_lem d = differ 34 33 (d.name_is begun (reply_saying 128 73 128)) (λ e. omega arith)
 
 -- one whose count moves by a reply that it refuses: a portion of 10 in 31 bytes
-is_none : OtherLength ≡ Taken → ⊥
-is_none e = differ 32 0 (ap portion_number e) (λ x. omega arith)
-
 pub refused_moves_lem : TakesRightly refused_moves → ⊥
 unfolding portion_verdict is_report_reply num same bytes_of grown
-refused_moves_lem d = differ 10 0 (ap (λ (c : Collection). c.held) (d.refused_leaves (fresh 0) (reply_saying 10 0 11) is_none)) (λ e. omega arith)
+refused_moves_lem d = differ 10 0 (ap (λ (c : Collection). c.held) (d.refused_leaves (fresh 0) (reply_saying 10 0 11) (λ e. cc))) (λ e. omega arith)
 
 -- one whose "before" is the last reply's: of 100 bytes held and 0/100 the total is 200
 pub before_is_last_lem : TakesRightly before_is_last → ⊥

@@ -1,4 +1,5 @@
 -- Each responder that is wrong about the report in RUN is refused by a demand. Assumes nothing.
+use Rattle.std.specs.Prelude.{Some}
 use mathlib.Core.Path.{◌≡◌, refl, sym, ap, subst, ◌∙◌}
 use mathlib.Core.List.{List, [], ◌∷◌}
 use Prim.Native.Nat.{ℕ}
@@ -11,7 +12,6 @@ use Rattle.rules.specs.Record.{offset_ok, lock_ok, ranges_ok, information_ok, re
 use Rattle.rules.specs.Report.{head_of, bytes_of_ranges, information_from, report_bytes, report_of, portion_bytes}
 use Rattle.rules.specs.Request.{header, message, exact_length, legal_in, verdict, get_report, running, start_interface, gets, effect}
 use Rattle.rules.specs.Table.{cut, records, record_at, all, distinct, length_ok, table_number, find_from, find}
-use Rattle.rules.specs.declared.Found.TheVariants.{At}
 use Rattle.demands.specs.Exactly.{Reaches, LockStands, in_locked, in_run, RequestsExactly}
 use Rattle.demands.specs.Machine.{Machine, reply_of, run, seen}
 use Rattle.demands.specs.ReportStays.{AcceptedStart, StartLeavesReport, Locked, AsksTwice, SameReply, no_more, ◌then◌, SameWhileLocked, SameOverStart}
@@ -20,7 +20,7 @@ use Rattle.wrong.specs.WrongInRun.{locked_card, running_card, failed_card, repor
 use Rattle.wrong.proofs.Wrong.{differ}
 
 -- the request reaches the card in each state
-report_reaches : (t : List ℕ) → table_number t ≡ 0 → find interface (records t) ≡ At 0 → Reaches report_asked t 0 0x84 20
+report_reaches : (t : List ℕ) → table_number t ≡ 0 → find interface (records t) ≡ Some 0 → Reaches report_asked t 0 0x84 20
 unfolding num
 report_reaches t accepted found = record {
   accepted = accepted;

@@ -1,12 +1,12 @@
 -- Wrong collectors and responders that a collector would come to grief on (02, 2/12), and what each is told by: `proofs/WrongCollecting.antt` shows which
 -- statement refuses it. And one card whose report is collected over a start, so that what is asked of a history can be met.
-use Rattle.std.specs.Prelude.{true, List, [], ◌∷◌, ◌++◌, ℕ, ◌+◌, eqb, ltb, if◌then◌else◌}
+use Rattle.std.specs.Prelude.{true, List, [], ◌∷◌, ◌++◌, ℕ, ◌+◌, eqb, ltb, if◌then◌else◌, Err}
 use Rattle.rules.specs.Bytes.{bytes_of, blank}
 use Rattle.rules.specs.Call.{Call, served, Request, step}
 use Rattle.rules.specs.Collector.{Collection, portion_said, remainder_said, total_said, is_taken, portion_verdict, grown, collected}
 use Rattle.rules.specs.Report.{most_report, report_total}
 use Rattle.rules.specs.Request.{Lent, kind_of, message}
-use Rattle.rules.specs.declared.PortionVerdict.TheVariants.{NotReport, TotalOver}
+use Rattle.rules.specs.declared.PortionRefusal.TheVariants.{NotReport, TotalOver}
 use Rattle.demands.specs.Collected.{Ask}
 use Rattle.demands.specs.Collecting.{Collecting}
 use Rattle.demands.specs.Machine.{Machine}
@@ -29,12 +29,12 @@ half = record { id = 0; bytes = blank 200; held = 100; begun = true; total = 200
 
 -- one that takes nothing
 abbrev pub takes_nothing : Collecting
-takes_nothing = record { finds = λ c p. NotReport; after = λ c p. c }
+takes_nothing = record { finds = λ c p. Err NotReport; after = λ c p. c }
 
 -- one that names a total over 200 before one that is different
 abbrev pub over_first : Collecting
 over_first = record {
-  finds = λ (c : Collection) (p : List ℕ). if ltb most_report (total_said c p) then TotalOver else portion_verdict c p;
+  finds = λ (c : Collection) (p : List ℕ). if ltb most_report (total_said c p) then Err TotalOver else portion_verdict c p;
   after = collected;
 }
 

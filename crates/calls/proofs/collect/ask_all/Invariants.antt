@@ -8,7 +8,11 @@ use Rattle.calls.proofs.Collecting.{Left}
 use Rattle.calls.proofs.collect.ask_all.Given as goal
 
 abbrev pub invariant-loop-c : goal.invariant-loop-c
-invariant-loop-c l = (l.c.held ≤ most_report) × (l.table ≡ l.initial.table) × Left l.length l.s l.initial.table (fresh l.function_id) (kept l.c)
+invariant-loop-c g l = record {
+  most : l.c.held ≤ most_report;
+  stays : l.table ≡ l.initial.table;
+  left : Left l.length l.s l.initial.table (fresh l.function_id) (kept l.c);
+}
 
 abbrev pub decreases-loop-c : goal.decreases-loop-c
-decreases-loop-c l = most_report - l.c.held
+decreases-loop-c g l = most_report - l.c.held

@@ -1,16 +1,13 @@
-use mathlib.Core.Path.{refl}
-use borrow.Author.Rules.{rules}
-use Rattle.rules.proofs.Scan.{all_stop, all_next, all_end}
+use Rattle.std.proofs.Common.{ap, rules, tests, ◌∙◌}
+use Rattle.std.proofs.lemmas.Iterator.{YieldsList-from_slice}
+use Rattle.std.proofs.lemmas.Iterator.Search.{all_from_yields_List}
+use Rattle.rules.specs.Change.{lets}
+use Rattle.rules.specs.Table.{all}
+use Rattle.table.proofs.Scans.{all_listed}
 use Rattle.changes.proofs.firmware.all_let.Goals as goal
 
-pub loop-k-init : goal.loop-k-init
-loop-k-init c = (search rules, refl)
-
-pub returns-then-not-lets_at : goal.returns-then-not-lets_at
-returns-then-not-lets_at c = search all_stop
-
-pub loop-k-preserved : goal.loop-k-preserved
-loop-k-preserved c = (search rules, search all_next)
-
 pub returns : goal.returns
-returns c = search all_end
+returns c =
+    all_from_yields_List lets _ _ _ c.all.ensures.ran (YieldsList-from_slice c.records.result.now cc) (λ x b q k. search (rules, tests))
+    ∙ all_listed lets c.records.result.now
+    ∙ ap (all lets) c.records.ensures

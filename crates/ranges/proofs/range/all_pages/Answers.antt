@@ -1,15 +1,11 @@
-use borrow.Author.Rules.{rules}
-use Rattle.rules.proofs.Every.{every_none, every_next, every_stop, every_done}
+use Rattle.std.proofs.Common.{rules, sym, ◌∙◌, tests}
+use Rattle.std.proofs.lemmas.Iterator.{YieldsList-from_slice}
+use Rattle.std.proofs.lemmas.Iterator.Search.{all_from_yields_List}
+use Rattle.rules.specs.Range.{zero_range, pages_ok}
+use Rattle.ranges.proofs.Alls.{all_every}
 use Rattle.ranges.proofs.range.all_pages.Goals as goal
 
-pub loop-k-init : goal.loop-k-init
-loop-k-init c = (search rules, every_none _)
-
-pub returns-then-not-pages_ok : goal.returns-then-not-pages_ok
-returns-then-not-pages_ok c = search every_stop
-
-pub loop-k-preserved : goal.loop-k-preserved
-loop-k-preserved c = (search rules, search every_next)
-
 pub returns : goal.returns
-returns c = search every_done
+returns c =
+    all_from_yields_List pages_ok _ _ _ c.all.ensures.ran (YieldsList-from_slice c.args.ranges.now cc) (λ x b q k. search (rules, tests))
+    ∙ sym (all_every pages_ok zero_range c.args.ranges.now)

@@ -1,18 +1,12 @@
-use borrow.Author.Rules.{rules}
-use Rattle.rules.specs.Range.{range_in}
-use Rattle.ranges.proofs.Falls.{none_yet, one_more, falls, no_fall_lem, no_fall_yet, never}
+use Rattle.std.proofs.Common.{rules}
+use Rattle.ranges.proofs.Falls.{none_yet, no_fall_yet, falls, no_fall_lem, one_more}
 use Rattle.ranges.proofs.range.never_fall.Goals as goal
 
-pub loop-k-init : goal.loop-k-init
-loop-k-init c =
-    let ranges = range_in c.args.ranges in
-    (search rules, no_fall_yet ranges, none_yet ranges)
+pub loop-range-init : goal.loop-range-init
+loop-range-init c = (no_fall_yet _, none_yet _)
 
-pub returns-then-id-least : goal.returns-then-id-least
-returns-then-id-least c = search falls
+pub returns-then-range-least : goal.returns-then-range-least
+returns-then-range-least c = search (rules, falls)
 
-pub loop-k-preserved : goal.loop-k-preserved
-loop-k-preserved c = (search rules, search no_fall_lem, search one_more)
-
-pub returns : goal.returns
-returns c = search never
+pub loop-range-preserved : goal.loop-range-preserved
+loop-range-preserved c = (search (rules, no_fall_lem), search (rules, one_more))

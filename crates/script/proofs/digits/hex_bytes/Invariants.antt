@@ -1,11 +1,13 @@
 -- What is left, after the bytes so far, answers for the whole.
-use Prim.Native.Nat.{◌≤◌, ◌-◌, ◌*◌}
-use lib.ListN.{length}
-use Rattle.script.proofs.HexBytes.{Left}
+use Rattle.std.proofs.Common.{◌≡◌, ◌≤◌, length}
+use Rattle.script.specs.Digits.{hexed}
 use Rattle.script.proofs.digits.hex_bytes.Given as goal
 
-abbrev pub invariant-loop-i : goal.invariant-loop-i
-invariant-loop-i l = (l.i ≤ length l.s) × (l.n ≤ 512) × (2 * l.n ≤ l.i) × Left l.s l.initial.out l.out l.n l.i
+abbrev pub invariant-loop-rest : goal.invariant-loop-rest
+invariant-loop-rest l = record {
+  within : l.n ≤ 512;
+  left : hexed 0 l.initial.out l.s ≡ hexed l.n l.out l.rest;
+}
 
-abbrev pub decreases-loop-i : goal.decreases-loop-i
-decreases-loop-i l = length l.s - l.i
+abbrev pub decreases-loop-rest : goal.decreases-loop-rest
+decreases-loop-rest l = length l.rest

@@ -1,19 +1,20 @@
-use mathlib.Core.Path.{refl}
-use borrow.Author.Rules.{rules}
-use Rattle.table.proofs.Slots.{length_marks, none_met, none_marked, sure, one_more_marked, one_more_differs, alike, all_differ}
+use Rattle.std.proofs.Common.{refl, rules, arith}
+use Rattle.table.proofs.Slots.{none_met, unmarked, looked_up, alike}
 use Rattle.table.proofs.judge.identities_differ.Goals as goal
+use Rattle.table.proofs.judge.identities_differ.Goals.{else-marks-slot-via-then-marks-slot+else-not-none_for, else-marks-slot-via-else-marks-slot}
 
 pub loop-k-init : goal.loop-k-init
-loop-k-init c = (search rules, refl, search none_met, search none_marked)
+loop-k-init c = none_met _ _ refl
 
-pub differs-requires : goal.differs-requires
-differs-requires c = (search rules, search sure)
-
-pub returns-then-not-differs : goal.returns-then-not-differs
-returns-then-not-differs c = search alike
+pub returns-then-not-none_for : goal.returns-then-not-none_for
+returns-then-not-none_for c = search (rules, alike)
 
 pub loop-k-preserved : goal.loop-k-preserved
-loop-k-preserved c = (search rules, search length_marks, search one_more_differs, search one_more_marked)
-
-pub returns : goal.returns
-returns c = search all_differ
+loop-k-preserved c =
+    let who-is = c.identity-who.ensures in
+    let slot = c.slot_of-slot.ensures in
+    elim c.else-marks-slot.branch [
+      | else-marks-slot-via-then-marks-slot+else-not-none_for w ↦
+          looked_up _ _ _ _ _ _ c.loop-k.invariant who-is slot.slot (omega arith) (omega arith) _ w.none_for.ensures w.if-not-none_for.false slot.within
+      | else-marks-slot-via-else-marks-slot w ↦ unmarked _ _ _ _ _ _ c.loop-k.invariant who-is slot.slot (omega arith) (omega arith) w.if-marks-slot.false slot.within
+    ]

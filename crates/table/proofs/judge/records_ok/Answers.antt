@@ -1,16 +1,11 @@
-use mathlib.Core.Path.{refl}
-use borrow.Author.Rules.{rules}
-use Rattle.rules.proofs.Scan.{all_stop, all_next, all_end}
+use Rattle.std.proofs.Common.{rules, tests, ◌∙◌}
+use Rattle.std.proofs.lemmas.Iterator.{YieldsList-from_slice}
+use Rattle.std.proofs.lemmas.Iterator.Search.{all_from_yields_List}
+use Rattle.rules.specs.Record.{record_ok}
+use Rattle.table.proofs.Scans.{all_listed}
 use Rattle.table.proofs.judge.records_ok.Goals as goal
 
-pub loop-k-init : goal.loop-k-init
-loop-k-init c = (search rules, refl)
-
-pub returns-then-not-record_ok_at : goal.returns-then-not-record_ok_at
-returns-then-not-record_ok_at c = search all_stop
-
-pub loop-k-preserved : goal.loop-k-preserved
-loop-k-preserved c = (search rules, search all_next)
-
 pub returns : goal.returns
-returns c = search all_end
+returns c =
+    all_from_yields_List record_ok _ _ _ c.all.ensures.ran (YieldsList-from_slice c.args.rs.now (search rules)) (λ x b q k. search (rules, tests))
+    ∙ all_listed record_ok c.args.rs.now

@@ -1,12 +1,7 @@
--- The flag says whether the bytes passed are the same.
-use mathlib.Core.Path.{◌≡◌}
-use Prim.Native.Nat.{◌≤◌, ◌-◌}
-use lib.ListN.{length}
+-- The flag tells of the bytes passed.
+use Rattle.std.proofs.Common.{◌≡◌, length}
 use Rattle.rules.specs.Bytes.{every, same_at}
 use Rattle.wire.proofs.same.same_bytes.Given as goal
 
-abbrev pub invariant-loop-i : goal.invariant-loop-i
-invariant-loop-i l = (l.i ≤ length l.a) × (l.ok ≡ every l.i (same_at l.a l.b))
-
-abbrev pub decreases-loop-i : goal.decreases-loop-i
-decreases-loop-i l = length l.a - l.i
+abbrev pub invariant-loop-x : goal.invariant-loop-x
+invariant-loop-x l = l.same ≡ every (length l.yielded) (same_at l.a l.b)

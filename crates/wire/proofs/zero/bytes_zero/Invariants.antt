@@ -1,11 +1,7 @@
--- The flag says whether the bytes passed are zero.
-use mathlib.Core.Path.{◌≡◌}
-use Prim.Native.Nat.{◌≤◌, ◌-◌}
+-- The flag tells of the bytes passed.
+use Rattle.std.proofs.Common.{◌≡◌}
 use Rattle.rules.specs.Bytes.{every, zero_at}
 use Rattle.wire.proofs.zero.bytes_zero.Given as goal
 
-abbrev pub invariant-loop-i : goal.invariant-loop-i
-invariant-loop-i l = (l.i ≤ l.n) × (l.ok ≡ every l.i (zero_at l.s l.at))
-
-abbrev pub decreases-loop-i : goal.decreases-loop-i
-decreases-loop-i l = l.n - l.i
+abbrev pub invariant-loop-byte : goal.invariant-loop-byte
+invariant-loop-byte l = l.zero ≡ every l.byte-index (zero_at l.bytes 0)

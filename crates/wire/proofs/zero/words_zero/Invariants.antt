@@ -1,11 +1,8 @@
--- The flag says whether the words passed are zero.
-use mathlib.Core.Path.{◌≡◌}
-use Prim.Native.Nat.{◌*◌, ◌≤◌, ◌-◌}
-use Rattle.rules.specs.Bytes.{every, zero_at}
+-- The flag tells of the words passed.
+use Rattle.std.proofs.Common.{◌≡◌, [], get_or}
+use Rattle.std.specs.Prelude.{eqb}
+use Rattle.rules.specs.Bytes.{every, num}
 use Rattle.wire.proofs.zero.words_zero.Given as goal
 
-abbrev pub invariant-loop-i : goal.invariant-loop-i
-invariant-loop-i l = (l.i ≤ l.n) × (l.ok ≡ every (8 * l.i) (zero_at l.s l.at))
-
-abbrev pub decreases-loop-i : goal.decreases-loop-i
-decreases-loop-i l = l.n - l.i
+abbrev pub invariant-loop-word : goal.invariant-loop-word
+invariant-loop-word l = l.zero ≡ every l.word-index (λ k. eqb (num (get_or l.words k []) 0 8) 0)

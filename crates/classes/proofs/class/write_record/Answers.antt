@@ -1,5 +1,0 @@
-use Rattle.classes.proofs.Moving.{moved_by}
-use Rattle.classes.proofs.class.write_record.Goals as goal
-
-pub returns : goal.returns
-returns c = search moved_by

@@ -1,9 +1,0 @@
--- `all_ranges` is safe and ends.
-use Prim.Native.Nat.{◌≤◌, ◌-◌}
-use Rattle.show.proofs.report.all_ranges.Given as goal
-
-abbrev pub invariant-loop-k : goal.invariant-loop-k
-invariant-loop-k l = l.k ≤ l.n
-
-abbrev pub decreases-loop-k : goal.decreases-loop-k
-decreases-loop-k l = l.n - l.k

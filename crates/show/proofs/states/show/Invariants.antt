@@ -1,9 +1,0 @@
--- Every record is lent whole.
-use Prim.Native.Nat.{◌≤◌, ◌-◌}
-use Rattle.show.proofs.states.show.Given as goal
-
-abbrev pub invariant-loop-k : goal.invariant-loop-k
-invariant-loop-k l = l.k ≤ l.n
-
-abbrev pub decreases-loop-k : goal.decreases-loop-k
-decreases-loop-k l = l.n - l.k

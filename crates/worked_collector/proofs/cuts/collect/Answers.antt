@@ -1,1 +1,0 @@
--- `collect` ends: 200 asks at most. Assumes nothing.
