@@ -10,8 +10,8 @@ use wire::number::LowFirst;
 
 // One ask: the collector afterwards.
 fn ask(c: Collector, length: u16, table: &mut [u8; 256]) -> Collector {
-    // as: the low 16 bits, which a TryFrom would have to give up on.
-    let offset = (c.next_offset() % 65536) as u16;
+    // It is 200 at most. Any other would be asked past the end, and the reply not taken.
+    let offset = u16::try_from(c.next_offset()).unwrap_or(u16::MAX);
     let request = report_request(0x0100, offset, length);
     let mut reply = [0u8; 256];
     let inputs = [0u8; 32];
