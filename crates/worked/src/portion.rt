@@ -4,19 +4,20 @@ use compare::record::full_record;
 use portions::portion::{put_portion, report_total};
 use portions::record::Record;
 use records::record::record_ok;
+use wire::number::LowFirst;
 
 // The lengths that a portion begins with.
 fn lengths(rt: &impl Print, out: &[u8; 256], portion: u16, remainder: u16) {
     case(
         rt,
         "  OFFSET 199, LENGTH 65,535: portion",
-        u64::from(u16::from_le_bytes([out[0], out[1]])),
+        u64::from(u16::read(out, 0)),
         u64::from(portion),
     );
     case(
         rt,
         "  and remainder",
-        u64::from(u16::from_le_bytes([out[2], out[3]])),
+        u64::from(u16::read(out, 2)),
         u64::from(remainder),
     );
 }

@@ -3,6 +3,7 @@ use compare::case;
 use compare::record::with_bytes;
 use report::read::read_report;
 use rules::Numbered;
+use wire::number::LowFirst;
 
 fn read(rt: &impl Print, name: &str, s: &[u8], want: u64) {
     case(rt, name, u64::from(read_report(s).number()), want);
@@ -58,27 +59,18 @@ fn two_ranges(
 
 // Three ranges of one page in 68 bytes, with the IDs a, b and c.
 fn three_ids(rt: &impl Print, name: &str, a: u8, b: u16, c: u8, want: u64) {
-    let [low, high] = b.to_le_bytes();
-    let s = with_bytes(
+    let mut s = with_bytes(
         [0u8; 68],
-        &[
-            (12, 3),
-            (24, 1),
-            (30, a),
-            (40, 1),
-            (46, low),
-            (47, high),
-            (56, 1),
-            (62, c),
-        ],
+        &[(12, 3), (24, 1), (30, a), (40, 1), (56, 1), (62, c)],
     );
+    b.write(&mut s, 46);
     read(rt, name, &s, want);
 }
 
 // One range in 36 bytes.
 fn one_range(rt: &impl Print, name: &str, first: u64, pages: u8, want: u64) {
     let mut s = with_bytes([0u8; 36], &[(12, 1), (24, pages)]);
-    s[16..24].copy_from_slice(&first.to_le_bytes());
+    first.write(&mut s, 16);
     read(rt, name, &s, want);
 }
 

@@ -1,17 +1,14 @@
 // Replies of type 04h, and a collector that is handed one.
 use collector::Collector;
 use compare::case;
-use compare::record::with_bytes;
 use rules::Numbered;
+use wire::number::LowFirst;
 
 // One for 0100h: what it says of portion and remainder; bytes of 5Ah behind.
 pub(crate) fn reply(portion: u16, remainder: u16) -> [u8; 256] {
-    let [low, high] = portion.to_le_bytes();
-    let [rest_low, rest_high] = remainder.to_le_bytes();
-    let mut r = with_bytes(
-        [0x5au8; 256],
-        &[(16, low), (17, high), (18, rest_low), (19, rest_high)],
-    );
+    let mut r = [0x5au8; 256];
+    portion.write(&mut r, 16);
+    remainder.write(&mut r, 18);
     r[..8].copy_from_slice(b"\x10\x04\x00\x00\x00\x01\x00\x00");
     r
 }
