@@ -10,8 +10,9 @@ ghost use Rattle.collector.specs.Kept.{kept};
 ghost use Rattle.collector.specs.Says.{Says};
 
 use crate::reply::Said;
+use rules::PortionRefusal;
 use rules::report::{MOST_REPORT, PORTION};
-use rules::{Identity, PortionRefusal};
+use table::identity::same_identity;
 use wire::copy::copy_over;
 
 // The bytes of a report so far and how many; of the interface with this FUNCTION_ID; and the total that the first reply taken said. `begun` is 0
@@ -91,7 +92,7 @@ impl Collector {
     }
 
     // What a reply that is taken says of itself, or the first name that applies. Nothing is written.
-    #[tactic(auto, using(std::proofs::lemmas::Bool::Decides::nat_tests), unfolding(rules::specs::Collector::portion_verdict, rules::specs::Identity::same))]
+    #[tactic(auto, using(std::proofs::lemmas::Bool::Decides::nat_tests), unfolding(rules::specs::Collector::portion_verdict))]
     fn judge(self, reply: &[u8]) -> Result<Said, PortionRefusal>
         ensures taken { IfOk result (λ s. Says reply.now s × (portion_verdict (kept self) reply.now ≡ Ok tt)) }
         ensures refused { IfErr result (λ why. portion_verdict (kept self) reply.now ≡ Err why) }
@@ -99,7 +100,7 @@ impl Collector {
         let Some(said) = Said::read(reply) else {
             return Err(PortionRefusal::NotReport);
         };
-        if Identity::from(self.function_id) != said.interface {
+        if !same_identity(self.function_id.into(), said.interface) {
             return Err(PortionRefusal::OtherInterface);
         }
         if reply.len() != PORTION + usize::from(said.portion) {

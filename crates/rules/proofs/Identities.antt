@@ -1,5 +1,5 @@
 -- The one equality of identities. Assumes nothing.
-use Rattle.std.specs.Prelude.{Option, Some, None, if◌then◌else◌}
+use Rattle.std.specs.Prelude.{if◌then◌else◌}
 use mathlib.Core.Path.{◌≡◌, refl, sym, ap, ◌∙◌}
 use mathlib.Core.Bool.{Bool, true, false, not, ◌&&◌, ◌||◌}
 use Prim.Native.Nat.{ℕ, ◌+◌, ◌*◌, ◌/◌, ◌%◌, ◌^◌, ◌<◌}
@@ -8,7 +8,7 @@ use lib.Dec.{eqb}
 use lib.Pow.{shr-shr}
 use borrow.Author.Tests.{eq-eqb, ne_eqb, eqb-true, eqb-false}
 use Rattle.rules.specs.Bytes.{bit, bits, bit_set}
-use Rattle.rules.specs.Identity.{identity_of, same, same_segment}
+use Rattle.rules.specs.Identity.{identity_of, same}
 use Rattle.rules.specs.Record.{identity_ok}
 use Rattle.rules.specs.declared.Identity.{Identity}
 use Rattle.rules.proofs.Bools.{clash, and_left, and_right}
@@ -26,37 +26,37 @@ eqb_refl a = eq-eqb a a refl
 abbrev segments : Bool → Bool → ℕ → ℕ → Bool
 segments v w s t = if v then w && eqb s t else not w
 
-same_segment_sym : (s t : Option ℕ) → same_segment s t ≡ same_segment t s
-same_segment_sym (Some s) (Some t) = eqb_sym s t
-same_segment_sym (Some s) None = refl
-same_segment_sym None (Some t) = refl
-same_segment_sym None None = refl
+segments_sym : (v w : Bool) (s t : ℕ) → segments v w s t ≡ segments w v t s
+segments_sym true true s t = eqb_sym s t
+segments_sym true false s t = refl
+segments_sym false true s t = refl
+segments_sym false false s t = refl
 
 pub same_sym : (a b : Identity) → same a b ≡ same b a
 unfolding same
-same_sym a b = rw (eqb_sym a.requester.0, same_segment_sym a.segment b.segment)
+same_sym a b = rw (eqb_sym a.requester.0, segments_sym a.valid b.valid a.segment b.segment)
 
-same_segment_refl : (s : Option ℕ) → same_segment s s ≡ true
-same_segment_refl (Some s) = eqb_refl s
-same_segment_refl None = refl
+segments_refl : (v : Bool) (s : ℕ) → segments v v s s ≡ true
+segments_refl true s = eqb_refl s
+segments_refl false s = refl
 
 pub same_refl : (a : Identity) → same a a ≡ true
 unfolding same
-same_refl a = rw (eqb_refl a.requester.0) (same_segment_refl a.segment)
+same_refl a = rw (eqb_refl a.requester.0) (segments_refl a.valid a.segment)
 
-same_segment_like : (r s t : Option ℕ) → same_segment r s ≡ true → same_segment r t ≡ same_segment s t
-same_segment_like (Some r) (Some s) t e = rw (eqb-true r s e)
-same_segment_like (Some r) None t e = clash (sym e)
-same_segment_like None (Some s) t e = clash (sym e)
-same_segment_like None None t e = refl
+segments_like : (u v w : Bool) (r s t : ℕ) → segments u v r s ≡ true → segments u w r t ≡ segments v w s t
+segments_like true true w r s t e = rw (eqb-true r s e)
+segments_like true false w r s t e = clash (sym e)
+segments_like false true w r s t e = clash (sym e)
+segments_like false false w r s t e = refl
 
 -- the same as one, the same as all that it is the same as
 pub same_like : (a b c : Identity) → same a b ≡ true → same a c ≡ same b c
 unfolding same
 same_like a b c e =
     let low = eqb a.requester.0 b.requester.0 in
-    let rest = same_segment a.segment b.segment in
-    rw (eqb-true a.requester.0 b.requester.0 (and_left low rest e), same_segment_like a.segment b.segment c.segment (and_right low rest e))
+    let rest = segments a.valid b.valid a.segment b.segment in
+    rw (eqb-true a.requester.0 b.requester.0 (and_left low rest e), segments_like a.valid b.valid c.valid a.segment b.segment c.segment (and_right low rest e))
 
 -- ---- what arrives: bits 31:25, and a segment that is not marked valid, do not matter
 
@@ -72,8 +72,9 @@ mark_kept id = omega arith
 pub top_ignored : (id : ℕ) → identity_of (id % 2 ^ 25) ≡ identity_of id
 top_ignored id = rw (low_kept id, segment_kept id, mark_kept id)
 
-pub unmarked_ignored : (n m : ℕ) → bit_set 24 n ≡ false → bit_set 24 m ≡ false → bits 15 0 n ≡ bits 15 0 m → identity_of n ≡ identity_of m
-unmarked_ignored n m u v e = rw (u, v, e)
+pub unmarked_ignored : (a b : Identity) (s : ℕ) → a.valid ≡ false → same (record { requester = a.requester; segment = s; valid = a.valid }) b ≡ same a b
+unfolding same
+unmarked_ignored a b s e = rw e
 
 -- ---- in records that keep their rules, the same identity is an equal FUNCTION_ID
 
@@ -111,16 +112,9 @@ module _ (n m : ℕ) (n_fits : n < 2 ^ 32) (m-fits : m < 2 ^ 32) (n-ok : identit
       ∙ equal_fields _ _ _ _ _ _ l (no_segment n n-ok p ∙ sym (no_segment m m-ok q)) (no_mark n p ∙ sym (no_mark m q))
       ∙ sym (fields m m-fits m-ok)
 
-  segments_of : (v w : Bool) (s t : ℕ) → same_segment (if v then Some s else None) (if w then Some t else None) ≡ segments v w s t
-  segments_of true true s t = refl
-  segments_of true false s t = refl
-  segments_of false true s t = refl
-  segments_of false false s t = refl
-
   same_then_equal : same (identity_of n) (identity_of m) ≡ true → n ≡ m
   unfolding same
-  same_then_equal h =
-      let e = rw (segments_of (bit_set 24 n) (bit_set 24 m) (bits 23 16 n) (bits 23 16 m)) at h in
+  same_then_equal e =
       let low = eqb (bits 15 0 n) (bits 15 0 m) in
       let rest = segments (bit_set 24 n) (bit_set 24 m) (bits 23 16 n) (bits 23 16 m) in
       equal (bit_set 24 n) (bit_set 24 m) refl refl (eqb-true _ _ (and_left low rest e)) (and_right low rest e)

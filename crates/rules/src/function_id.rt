@@ -9,10 +9,10 @@ impl From<u32> for Identity {
     ghost from_gives = { λ id who. who ≡ identity_of id };
 
     fn from(id: u32) -> Identity {
-        let marked = id / VALID_FROM % VALID_VALUES == 1;
         Identity {
             requester: Requester((id % REQUESTER_VALUES) as u16),
-            segment: marked.then_some((id / SEGMENT_FROM % SEGMENT_VALUES) as u8),
+            segment: (id / SEGMENT_FROM % SEGMENT_VALUES) as u8,
+            valid: id / VALID_FROM % VALID_VALUES == 1,
         }
     }
 }

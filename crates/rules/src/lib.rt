@@ -33,11 +33,13 @@ pub struct Stream(pub u8);
 #[derive(Clone, Copy, PartialEq, Eq)]
 pub struct Session(pub u8);
 
-// FUNCTION_ID taken apart: bits 15:0, and 23:16 where bit 24 says that they count. Two are the same interface's exactly if they are equal.
-#[derive(Clone, Copy, PartialEq, Eq)]
+// FUNCTION_ID taken apart: bits 15:0, 23:16 and 24. A segment that is not marked valid is kept and not compared, so two of one interface's need not be equal:
+// `table::identity::same_identity` tells.
+#[derive(Clone, Copy)]
 pub struct Identity {
     pub requester: Requester,
-    pub segment: Option<u8>,
+    pub segment: u8,
+    pub valid: bool,
 }
 
 // What a lock is given beside the request: nonce bytes, whether they are ready, the stream map, the session.

@@ -1,10 +1,11 @@
 -- Interfaces marked in slots: one whose slot is not marked is none of those met. Assumes nothing.
+use Rattle.std.specs.Prelude.{if◌then◌else◌, ◌&&◌}
 use Rattle.std.proofs.Common.{◌≡◌, refl, sym, ap, ◌∙◌, Bool, true, false, not, List, [], ◌∷◌, ℕ, zero, suc, ◌+◌, ◌%◌, ◌<◌, eqb, length, drop, get_or, set, take, ◌-◌, add-one, arith, drop-cons}
 use Rattle.std.proofs.lemmas.List.{take_rest}
 use native.Mathlib.Nat.{le_of_suc-le-suc, not-suc-le-zero, le_refl}
 use borrow.Author.Tests.{eqb-true}
 use lib.ListN.{drop_of_length-le, length-set}
-use Rattle.rules.specs.Identity.{same, same_segment}
+use Rattle.rules.specs.Identity.{same}
 use Rattle.rules.specs.Record.{Rec}
 use Rattle.rules.specs.Table.{all, identity, names, names_not, distinct}
 use Rattle.rules.specs.declared.Identity.{Identity}
@@ -14,7 +15,9 @@ use Rattle.table.specs.Slots.{slot, marked}
 -- one interface, one slot
 same_slot : (a b : Identity) → same a b ≡ true → slot a ≡ slot b
 unfolding same
-same_slot a b e = ap (λ (x : ℕ). x % 1024) (eqb-true a.requester.0 b.requester.0 (and_left (eqb a.requester.0 b.requester.0) (same_segment a.segment b.segment) e))
+same_slot a b e =
+    let low = eqb a.requester.0 b.requester.0 in
+    ap (λ (x : ℕ). x % 1024) (eqb-true a.requester.0 b.requester.0 (and_left low (if a.valid then b.valid && eqb a.segment b.segment else not b.valid) e))
 
 -- ---- an interface whose slot is not marked
 

@@ -14,9 +14,12 @@ pub fn identity(r: &[u8; RECORD_BYTES]) -> Identity
 }
 
 // 01: bits 15:0, bit 24 and, if bit 24 is set, bits 23:16 agree.
-#[tactic(auto, unfolding(rules::specs::Identity::same))]
+#[tactic(auto, using(crate::proofs::Marks::both_or_neither))]
 pub fn same_identity(a: Identity, b: Identity) -> bool
     ensures { result ≡ same a b }
 {
-    a == b
+    let segments = a.segment == b.segment;
+    let marked = a.valid & b.valid;
+    let unmarked = !(a.valid | b.valid);
+    (a.requester.0 == b.requester.0) & ((marked & segments) | unmarked)
 }
