@@ -1,6 +1,7 @@
 // The embedded card: interface 0100h with six ranges and 20 bytes of information, 0101h in RUN on stream 5, and 0102h.
 use crate::replay::run;
 use show::states;
+use wire::copy::copy_over;
 
 // The calls: every kind of request, a start with a wrong nonce among them, a report collected, and a stream that goes down. The flags are
 // NO_FW_UPDATE and LOCK_MSIX.
@@ -34,7 +35,7 @@ const FIRST: &[u8; 152] = b"\x10\0\0\0\0\0\0\0\x01\0\0\0\x01\0\0\0\
 // The table: 0100h with MSI-X control 3, six ranges and information; 0101h in RUN, stream 5, session 7; 0102h.
 fn card() -> [u8; 768] {
     let mut table = [0u8; 768];
-    table[72..224].copy_from_slice(FIRST);
+    copy_over(&mut table, 72, FIRST);
     table[1] = 1;
     table[10] = 6;
     table[14] = 3;

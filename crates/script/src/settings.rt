@@ -3,6 +3,7 @@ ghost use Rattle.std.specs.Prelude.{◌≡◌};
 ghost use Rattle.script.specs.Settings.{at_start, set_by, zeros, front, given};
 
 use rules::Session;
+use wire::copy::copy_over;
 
 // The longest request and the longest reply buffer.
 pub const MOST_MESSAGE: usize = 512;
@@ -29,11 +30,12 @@ impl Input {
     }
 
     // The front of a line's bytes.
+    #[tactic(auto, using(rules::proofs::Parts::over_all))]
     fn front(bytes: &[u8; MOST_MESSAGE], count: usize) -> Input
         ensures { result ≡ front bytes.now count }
     {
         let mut kept = [0; MOST_INPUT];
-        kept.copy_from_slice(&bytes[..MOST_INPUT]);
+        copy_over(&mut kept, 0, &bytes[..MOST_INPUT]);
         Input { bytes: kept, count }
     }
 

@@ -25,7 +25,8 @@ fn zeros(rt: &impl Print) {
 pub(crate) fn sizes(rt: &impl Print) {
     zeros(rt);
     twenty(rt, "N = 9 in 20 bytes", 12, 9, 21);
-    let all = with_bytes([0u8; 20], &[(12, 0xff), (13, 0xff), (14, 0xff), (15, 0xff)]);
+    let mut all = [0u8; 20];
+    0xffffffffu32.write(&mut all, 12);
     read(rt, "N = FFFFFFFFh in 20 bytes", &all, 21);
     twenty(rt, "N = 1 in 20 bytes", 12, 1, 20);
     twenty(rt, "L = 53 in 20 bytes", 16, 53, 21);

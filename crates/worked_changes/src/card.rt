@@ -2,13 +2,14 @@
 // held, flags, default stream, session; the rest of it is zero: offset 0, no ranges, no information.
 use compare::{bytes, counted};
 use rules::Answer;
+use wire::copy::copy_over;
 
 // Interfaces with these first ten bytes, in a table of N bytes, one record after the other.
 pub(crate) fn table<const N: usize>(heads: &[[u8; 10]]) -> [u8; N] {
     let mut table = [0u8; N];
     let (records, _) = table.as_chunks_mut::<256>();
     for (record, head) in records.iter_mut().zip(heads) {
-        record[..10].copy_from_slice(head);
+        copy_over(record, 0, head);
     }
     table
 }

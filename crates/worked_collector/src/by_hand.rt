@@ -2,14 +2,16 @@
 use collector::Collector;
 use compare::case;
 use rules::Numbered;
+use wire::copy::copy_over;
 use wire::number::LowFirst;
 
 // One for 0100h: what it says of portion and remainder; bytes of 5Ah behind.
 pub(crate) fn reply(portion: u16, remainder: u16) -> [u8; 256] {
     let mut r = [0x5au8; 256];
+    copy_over(&mut r, 0, &[0x10, 0x04, 0, 0]);
+    0x0100u32.write(&mut r, 4);
     portion.write(&mut r, 16);
     remainder.write(&mut r, 18);
-    r[..8].copy_from_slice(b"\x10\x04\x00\x00\x00\x01\x00\x00");
     r
 }
 

@@ -6,6 +6,7 @@ use compare::{bytes, case};
 use report::read::read_report;
 use responder::respond;
 use rules::{Numbered, Range, Session};
+use wire::copy::copy_over;
 use wire::number::LowFirst;
 
 // One ask: the collector afterwards.
@@ -77,9 +78,11 @@ fn put_ranges(r: &mut [u8; 256]) {
 // A0h to D3h.
 fn put_information(r: &mut [u8; 256]) {
     r[200] = 52;
-    for (byte, value) in r[204..].iter_mut().zip(0xa0..=0xd3) {
-        *byte = value;
-    }
+    copy_over(
+        r,
+        204,
+        b"\xa0\xa1\xa2\xa3\xa4\xa5\xa6\xa7\xa8\xa9\xaa\xab\xac\xad\xae\xaf\xb0\xb1\xb2\xb3\xb4\xb5\xb6\xb7\xb8\xb9\xba\xbb\xbc\xbd\xbe\xbf\xc0\xc1\xc2\xc3\xc4\xc5\xc6\xc7\xc8\xc9\xca\xcb\xcc\xcd\xce\xcf\xd0\xd1\xd2\xd3",
+    );
 }
 
 // 0100h, locked with NO_FW_UPDATE and LOCK_MSIX, nothing else.
@@ -87,14 +90,22 @@ fn plain() -> [u8; 256] {
     with_bytes([0u8; 256], &[(1, 1), (4, 1), (5, 1), (6, 5)])
 }
 
-// The same with every field that a report shows, the offset -3 pages, and 52 bytes of information: the total is 200.
+// Every field that a report shows.
+fn put_fields(r: &mut [u8; 256]) {
+    r[10] = 8;
+    r[12] = 0x1e;
+    0x8007u16.write(r, 14);
+    0x1234u16.write(r, 16);
+    0x01020304u32.write(r, 20);
+    0xffffffffffffd000u64.write(r, 24);
+}
+
+// The same with all of them, the offset -3 pages, and 52 bytes of information: the total is 200.
 fn full() -> [u8; 256] {
     let mut r = plain();
+    put_fields(&mut r);
     put_ranges(&mut r);
     put_information(&mut r);
-    r[10..32].copy_from_slice(
-        b"\x08\x00\x1e\x00\x07\x80\x34\x12\x00\x00\x04\x03\x02\x01\x00\xd0\xff\xff\xff\xff\xff\xff",
-    );
     r
 }
 
