@@ -1,5 +1,5 @@
 -- What has a form of its own when it is printed. Assumes nothing.
-use Rattle.std.specs.Prelude.{List, ◌++◌, ℕ, ltb, codes, decimal, flat_map, reverse, if◌then◌else◌}
+use Rattle.std.specs.Prelude.{List, ◌++◌, ℕ, min, ltb, codes, decimal, flat_map, reverse, if◌then◌else◌}
 use Rattle.compare.specs.Form.{padded, hex}
 use Rattle.show.specs.Names.{state_name}
 
@@ -11,9 +11,9 @@ turned bytes = flat_map (padded 2) (reverse bytes)
 abbrev pub low_first : List ℕ → List ℕ
 low_first bytes = hex bytes ++ codes " = " ++ turned bytes ++ codes "h"
 
--- a number, with the h that says so
+-- a number, with the h that says so; it is filled up to 16 digits at most
 abbrev pub number : ℕ → ℕ → List ℕ
-number width n = padded width n ++ codes "h"
+number width n = padded (min width 16) n ++ codes "h"
 
 -- a FUNCTION_ID
 abbrev pub function_id : ℕ → List ℕ

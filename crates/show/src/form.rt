@@ -33,7 +33,7 @@ impl fmt::Display for Turned<'_> {
     }
 }
 
-// A number in hex, of so many digits or more, with the h that says so.
+// A number in hex, of so many digits or more, with the h that says so; it is filled up to 16 digits at most.
 #[derive(Clone, Copy)]
 pub struct Number {
     pub number: u64,
@@ -45,7 +45,7 @@ impl fmt::Display for Number {
 
     fn fmt<W: fmt::Write>(&self, f: &mut fmt::Formatter<W>) -> fmt::Result {
         let number = self.number;
-        let digits = self.digits;
+        let digits = self.digits.min(16);
         write!(f, "{number:0digits$x}h")
     }
 }

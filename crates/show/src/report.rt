@@ -8,13 +8,18 @@ use rules::place::RANGE_BYTES;
 use rules::report::{COUNT, LNR, MSIX, RANGES, TPH, UNUSED};
 use rules::{Range, ReportFields};
 
+// A number in so many digits.
+fn in_digits(x: impl Into<u64>, digits: usize) -> Number {
+    Number {
+        number: x.into(),
+        digits,
+    }
+}
+
 // A field that is a number: its bytes, and the number in so many digits.
 fn number<R: Print>(rt: &R, title: &str, bytes: &[u8], x: impl Into<u64>, digits: usize) {
     let bytes = Hex(bytes);
-    let number = Number {
-        number: x.into(),
-        digits,
-    };
+    let number = in_digits(x, digits);
     let _ = println!(rt; "    {title}, low byte first:{bytes} = {number}");
 }
 
@@ -35,12 +40,12 @@ fn range<R: Print>(rt: &R, k: usize, x: &Range, s: &[u8]) {
     let attributes = Hex(part(s, 12..14));
     let id = Hex(part(s, 14..16));
     let _ = print!(rt;
-        "    MMIO_RANGE {k}, low byte first: first page{first} = {:016x}h",
-        x.first
+        "    MMIO_RANGE {k}, low byte first: first page{first} = {}",
+        in_digits(x.first, 16)
     );
-    let _ = print!(rt; ", pages{pages} = {:08x}h", x.pages);
-    let _ = print!(rt; ", attributes{attributes} = {:04x}h", x.attributes);
-    let _ = println!(rt; ", range ID{id} = {:04x}h", x.id);
+    let _ = print!(rt; ", pages{pages} = {}", in_digits(x.pages, 8));
+    let _ = print!(rt; ", attributes{attributes} = {}", in_digits(x.attributes, 4));
+    let _ = println!(rt; ", range ID{id} = {}", in_digits(x.id, 4));
 }
 
 // The ranges that there are.
