@@ -2,14 +2,15 @@
 import re
 
 STRING = r'"(?:[^"\\]|\\[\s\S])*"'
-QUOTED = r"\bb'(?:[^'\\]|\\.)'"
+QUOTED = r"\bb'(?:[^'\\]|\\.)'|'[][(){}\"]'"
+GENERICS = r"<(?:->|[^<>]|<(?:->|[^<>]|<(?:->|[^<>])*>)*>)*>"
 MARKS = r"(?:(?:abbrev|unfoldable|axiom|pub) )*"
 
 
 def without_comments(text, mark):
-    """The text without its comments: what follows the mark on a line, unless the mark stands in a string."""
+    """The text without its comments, as many lines: what follows the mark on a line, unless the mark stands in a string."""
     comment = r"(?:(?<=\s)|^)--[^\n]*|\{-[\s\S]*?-\}" if mark == "--" else r"//[^\n]*|/\*[\s\S]*?\*/"
-    return re.sub(r"(%s|%s)|%s" % (STRING, QUOTED, comment), lambda found: found.group(1) or "", text, flags=re.M)
+    return re.sub(r"(%s|%s)|%s" % (STRING, QUOTED, comment), lambda found: found.group(1) or "\n" * found.group(0).count("\n"), text, flags=re.M)
 
 
 def squeezed(text):
@@ -152,8 +153,21 @@ def head(text, at):
 
 
 def blocks(text):
-    """Each trait and each `impl` block: where it begins and ends, and the name of the trait, or of the type that has the functions itself."""
-    return [(m.start(), closing(text, m.end() - 1), m.group(1)) for m in re.finditer(r"^ *(?:impl(?:<[^>]*>)?|(?:pub )?trait) (\w+)[^{\n]*\{", text, re.M)]
+    """Each trait and each `impl` block: where it begins and ends, its head, and the name of the trait, or of the type that has the functions itself."""
+    heads = re.finditer(r"^ *(?:unsafe )?(?:impl(?:%s)?|(?:pub(?:\([a-z]+\))? )?(?:unsafe )?trait) (\w+)[^{]*\{" % GENERICS, text, re.M)
+    return [(m.start(), closing(text, m.end() - 1), squeezed(m.group(0)[:-1]), m.group(1)) for m in heads]
+
+
+def functions(text):
+    """Each function: where it begins, its name, and its text without its body."""
+    heads = re.finditer(r"^ *((?:#\[.*\]\s*)*)((?:pub(?:\([a-z]+\))? )?(?:extern \"C\" )?fn (\w+)\s*(?:%s\s*)?\()" % GENERICS, text, re.M)
+    return [(m.start(2), m.group(3), squeezed(m.group(1) + head(text, m.start(2)))) for m in heads]
+
+
+def methods(text):
+    """Each trait and each `impl` block: its head, its name, its text, and its functions by name."""
+    text = without_comments(text, "//")
+    return [(top, of, text[start:end], {name: item for at, name, item in functions(text) if start < at < end}) for start, end, top, of in blocks(text)]
 
 
 def named(table, prefix, name, item):
@@ -166,10 +180,9 @@ def promises(path, text):
     items, prefix = {}, module_of(path)
     text = without_comments(text, "//")
     origin, within = imports(text), blocks(text)
-    for found in re.finditer(r"^ *((?:#\[.*\]\s*)*)((?:pub(?:\([a-z]+\))? )?(?:extern \"C\" )?fn (\w+)\s*(?:<[^>]*>\s*)?\()", text, re.M):
-        owner = "".join(of + "::" for start, end, of in within if start < found.start(2) < end)
-        item = squeezed(found.group(1) + head(text, found.start(2)))
-        named(items, prefix, owner + found.group(3), with_origins(item, origin))
+    for at, name, item in functions(text):
+        owner = "".join(of + "::" for start, end, top, of in within if start < at < end)
+        named(items, prefix, owner + name, with_origins(item, origin))
     return items
 
 
