@@ -6,7 +6,6 @@ use compare::{bytes, case};
 use report::read::read_report;
 use responder::respond;
 use rules::{Numbered, Range, Session};
-use wire::copy::copy_over;
 use wire::number::LowFirst;
 
 // One ask: the collector afterwards.
@@ -78,11 +77,9 @@ fn put_ranges(r: &mut [u8; 256]) {
 // A0h to D3h.
 fn put_information(r: &mut [u8; 256]) {
     r[200] = 52;
-    copy_over(
-        r,
-        204,
-        b"\xa0\xa1\xa2\xa3\xa4\xa5\xa6\xa7\xa8\xa9\xaa\xab\xac\xad\xae\xaf\xb0\xb1\xb2\xb3\xb4\xb5\xb6\xb7\xb8\xb9\xba\xbb\xbc\xbd\xbe\xbf\xc0\xc1\xc2\xc3\xc4\xc5\xc6\xc7\xc8\xc9\xca\xcb\xcc\xcd\xce\xcf\xd0\xd1\xd2\xd3",
-    );
+    for (byte, value) in r[204..].iter_mut().zip(0xa0..=0xd3) {
+        *byte = value;
+    }
 }
 
 // 0100h, locked with NO_FW_UPDATE and LOCK_MSIX, nothing else.
